@@ -1,0 +1,5 @@
+pub mod Choice
+pub mod NumberLaws
+pub mod Agreement
+pub mod Secrecy
+pub mod Example

@@ -1,0 +1,30 @@
+-- `access::next::number` meets its contract.
+-- Assumes nothing.
+use borrow.Author.Needs.{needs}
+use Rattle.access.proofs.next.number.Statement.{statement}
+use Rattle.access.proofs.next.number.Tie as tie
+
+pub number-spec : {M : Type 1} → statement M
+number-spec =
+    tie.close
+    (tie.spec
+    (λ c. search needs)
+    (λ c κs. search needs)
+    (λ c. search needs)
+    (λ c. search needs)
+    (λ c. search needs)
+    (λ c. search needs)
+    (λ c κs. search needs)
+    (λ c. search needs)
+    (λ c. search needs)
+    (λ c. search needs)
+    (λ c. search needs)
+    (λ c. search needs)
+    (λ c. search needs)
+    (λ c. search needs)
+    (λ c. search needs)
+    (λ c κs. search needs)
+    (λ c. rw (c .before .before .next .given .1, c .number .ensures))
+    (λ c. rw (c .before .before .next2 .given .1, c .number2 .ensures))
+    (λ c. search needs)
+    (λ c. search needs))

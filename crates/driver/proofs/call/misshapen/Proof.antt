@@ -1,0 +1,19 @@
+-- `driver::call::misshapen` meets its contract.
+-- Assumes nothing.
+use borrow.Author.Needs.{needs}
+use Rattle.driver.proofs.call.misshapen.Statement.{statement}
+use Rattle.driver.proofs.call.misshapen.Tie as tie
+
+pub misshapen-spec : {M : Type 1} → statement M
+misshapen-spec =
+    tie.close
+    (tie.spec
+    (λ c. search needs)
+    (λ c κs. search needs)
+    (λ c. search needs)
+    (λ c. search needs)
+    (λ c. search needs)
+    (λ c. rw (c .before .enum-told .given .1, c .is-shaped .ensures))
+    (λ c. search needs)
+    (λ c. search needs)
+    (λ c. search needs))

@@ -1,0 +1,133 @@
+-- Laws of a status word's class.
+-- Assumes nothing.
+use Prim.Native.Nat.{ℕ, _/_, _%_, _^_, _+_, _*_}
+use mathlib.Core.Path.{_≡_, refl, sym, ap, _∙_, subst}
+use mathlib.Core.Bool.{Bool, true, false, cond, _&&_}
+use mathlib.Core.List.{List, [], _∷_, _++_}
+use native.Mathlib.Nat.{zero-mod, zero-div}
+use native.Mathlib.Omega.{arith}
+use lib.Pow.{field, mod-mod-pow, shr-shr}
+use borrow.Author.Tests.{ne-eqb}
+use Rattle.registers.specs.declared.chip.Chip.{Chip}
+use Rattle.registers.specs.Bits.{BERR, ARLO, AF, OVR, PECERR, TIMEOUT}
+use Rattle.registers.specs.Word.{hasBit}
+use Rattle.registers.specs.Flags.{errorFlags}
+use Rattle.access.specs.declared.ending.Error.{Error}
+use Rattle.access.specs.declared.ending.Error.the-variants.{Bus, Arbitration, Nack, Timeout, Crc, Overrun}
+use Rattle.access.specs.Endings.{isMet}
+use Rattle.errors.specs.declared.Checked.{Checked}
+use Rattle.errors.specs.declared.Checked.the-variants.{Fine, Failed}
+use Rattle.errors.specs.Classes.{classes, class, only, firstOf, errorOf, decided}
+
+decided-if {ℓ} : {X : Type ℓ} (t : Bool) (e : Error) (c : Checked) (h : Error → X) (p : X) → decided (cond t (Failed e) c) h p ≡ cond t (h e) (decided c h p)
+decided-if true e c h p = refl
+decided-if false e c h p = refl
+
+-- the Rust's chain of ifs goes by the class
+pub by-class {ℓ} : {X : Type ℓ} (chip : Chip) (nack : Bool) (w : ℕ) (h : Error → X) (p : X)
+    → cond (hasBit ARLO w) (h Arbitration)
+    (cond (chip .«i2c_v3» && hasBit TIMEOUT w) (h Timeout)
+    (cond (hasBit PECERR w) (h Crc)
+    (cond (hasBit OVR w) (h Overrun)
+    (cond (nack && hasBit AF w) (h Nack)
+    (cond (chip .ch32v4 && hasBit BERR w) (h Bus) p)))))
+    ≡ decided (errorOf chip nack w) h p
+unfolding errorOf
+by-class chip nack w h p = go (chip .«i2c_v3») nack (chip .ch32v4)
+  where
+    go : (v3 n v4 : Bool)
+        → cond (hasBit ARLO w) (h Arbitration)
+        (cond (v3 && hasBit TIMEOUT w) (h Timeout)
+        (cond (hasBit PECERR w) (h Crc)
+        (cond (hasBit OVR w) (h Overrun)
+        (cond (n && hasBit AF w) (h Nack)
+        (cond (v4 && hasBit BERR w) (h Bus) p)))))
+        ≡ decided
+        (firstOf
+        (class ARLO Arbitration ∷ only v3 (class TIMEOUT Timeout)
+        ++ class PECERR Crc ∷ class OVR Overrun ∷ only n (class AF Nack)
+        ++ only v4 (class BERR Bus))
+        w) h p
+    go true true true = simp decided-if
+    go true true false = simp decided-if
+    go true false true = simp decided-if
+    go true false false = simp decided-if
+    go false true true = simp decided-if
+    go false true false = simp decided-if
+    go false false true = simp decided-if
+    go false false false = simp decided-if
+
+-- the same of the class itself
+pub as-ifs : (chip : Chip) (nack : Bool) (w : ℕ)
+    → cond (hasBit ARLO w) (Failed Arbitration)
+    (cond (chip .«i2c_v3» && hasBit TIMEOUT w) (Failed Timeout)
+    (cond (hasBit PECERR w) (Failed Crc)
+    (cond (hasBit OVR w) (Failed Overrun)
+    (cond (nack && hasBit AF w) (Failed Nack)
+    (cond (chip .ch32v4 && hasBit BERR w) (Failed Bus) Fine)))))
+    ≡ errorOf chip nack w
+as-ifs chip nack w = by-class chip nack w Failed Fine ∙ same (errorOf chip nack w)
+  where
+    same : (c : Checked) → decided c Failed Fine ≡ c
+    same (Failed e) = refl
+    same Fine = refl
+
+-- a word without error flags shows no error
+clear-flag : (n w : ℕ) → (w / 2 ^ n % 2 ≡ 1 → ⊥) → hasBit n w ≡ false
+unfolding hasBit
+clear-flag n w h = ne-eqb (w / 2 ^ n % 2) 1 h
+
+-- bits 8 to 12 are the digits of a number that is 0
+low-clear : (w : ℕ) → errorFlags w ≡ 0 → w / 2 ^ 8 % 2 ^ 5 ≡ 0
+unfolding errorFlags
+low-clear w z = omega arith
+
+high-clear : (w : ℕ) → errorFlags w ≡ 0 → w / 2 ^ 14 % 2 ≡ 0
+unfolding errorFlags
+high-clear w z = omega arith
+
+digit-clear : (x k j : ℕ) → x % 2 ^ (k + (1 + j)) ≡ 0 → x / 2 ^ j % 2 ≡ 1 → ⊥
+digit-clear x k j z e =
+    let a : x % 2 ^ (1 + j) ≡ 0 = sym (mod-mod-pow x k (1 + j)) ∙ ap (λ (n : ℕ). n % 2 ^ (1 + j)) z ∙ zero-mod (2 ^ (1 + j)) in
+    let b : x / 2 ^ j % 2 ≡ 0 = sym (field x 1 j) ∙ ap (λ (n : ℕ). n / 2 ^ j) a ∙ zero-div (2 ^ j) in
+    omega arith
+
+pub no-flags : (chip : Chip) (nack : Bool) (w : ℕ) → errorFlags w ≡ 0 → errorOf chip nack w ≡ Fine
+no-flags chip nack w z =
+    let low : (k j : ℕ) → k + (1 + j) ≡ 5 → w / 2 ^ (8 + j) % 2 ≡ 1 → ⊥ =
+    λ k j q e. digit-clear (w / 2 ^ 8) k j (subst (λ (n : ℕ). w / 2 ^ 8 % 2 ^ n ≡ 0) (sym q) (low-clear w z)) (ap (λ (n : ℕ). n % 2) (shr-shr w 8 j) ∙ e) in
+    sym (as-ifs chip nack w)
+    ∙ rw (
+      clear-flag ARLO w (low 3 1 refl),
+      clear-flag TIMEOUT w (λ e. let h = high-clear w z in omega arith),
+      clear-flag PECERR w (low 0 4 refl),
+      clear-flag OVR w (low 1 3 refl),
+      clear-flag AF w (low 2 2 refl),
+      clear-flag BERR w (low 4 0 refl),
+    )
+    (rest (chip .«i2c_v3») nack (chip .ch32v4))
+  where
+    rest : (a b c : Bool) → cond (a && false) (Failed Timeout) (cond (b && false) (Failed Nack) (cond (c && false) (Failed Bus) Fine)) ≡ Fine
+    rest true true true = refl
+    rest true true false = refl
+    rest true false true = refl
+    rest true false false = refl
+    rest false true true = refl
+    rest false true false = refl
+    rest false false true = refl
+    rest false false false = refl
+
+-- an error of a status word is one of 1 to 6
+either : (b : Bool) {A B : Type 0} → A → B → cond b A B
+either true x y = x
+either false x y = y
+
+pub class-met : (chip : Chip) (nack : Bool) (w : ℕ) → decided (errorOf chip nack w) (λ e. isMet e ≡ true) (Unit {0})
+class-met chip nack w =
+    subst (λ (T : Type 0). T) (by-class chip nack w (λ e. isMet e ≡ true) (Unit {0}))
+    (either (hasBit ARLO w) refl
+    (either (chip .«i2c_v3» && hasBit TIMEOUT w) refl
+    (either (hasBit PECERR w) refl
+    (either (hasBit OVR w) refl
+    (either (nack && hasBit AF w) refl
+    (either (chip .ch32v4 && hasBit BERR w) refl tt))))))

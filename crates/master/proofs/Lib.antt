@@ -1,0 +1,10 @@
+pub mod Counts
+pub mod MasterAgrees
+pub mod Joining
+pub mod LentLaws
+pub mod RunsAgree
+pub mod CallAgrees
+pub mod Secret
+pub mod FitsKept
+pub mod AcceptedFits
+pub mod Examples

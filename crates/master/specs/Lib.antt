@@ -1,0 +1,7 @@
+pub mod Rust
+pub mod Joined
+pub mod Machine
+pub mod Fits
+pub mod Calls
+pub mod Steps
+pub mod Claims

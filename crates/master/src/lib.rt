@@ -1,0 +1,16 @@
+// The master's calls and the states of its machine. The meaning of both is in specs/, and crate `driver` is the code.
+pub mod call;
+pub mod stage;
+pub mod state;
+
+pub use call::Call;
+pub use call::Frame;
+pub use call::FrameOptions;
+pub use call::Kind;
+pub use call::Setting;
+pub use stage::Stage;
+pub use state::Begun;
+pub use state::Move;
+pub use state::Progress;
+pub use state::State;
+pub use state::Stepped;

@@ -1,0 +1,4 @@
+pub mod Operations
+pub mod Runs
+pub mod Tally
+pub mod Search

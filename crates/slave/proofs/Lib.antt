@@ -1,0 +1,6 @@
+pub mod CountLaws
+pub mod SlaveAgrees
+pub mod CallAgrees
+pub mod Secret
+pub mod FitsKept
+pub mod Examples

@@ -1,0 +1,76 @@
+-- The slave's calls: what is seen of them, and of the Rust.
+use mathlib.Core.Path.{_≡_}
+use mathlib.Core.Bool.{Bool, cond}
+use mathlib.Core.List.{List, []}
+use mathlib.Core.Option.{Option, none, some}
+use Prim.Native.Nat.{ℕ, _≤_}
+use lib.Dec.{ltb}
+use lib.ListN.{length}
+use Rattle.registers.specs.declared.chip.Chip.{Chip}
+use Rattle.access.specs.declared.ending.Error.{Error}
+use Rattle.access.specs.declared.ending.Error.the-variants.{BufferTooLong}
+use Rattle.access.specs.Endings.{done, returned, failed}
+use Rattle.access.specs.Program.{Program, callOf}
+use Rattle.access.specs.Record.{Shown, noMore, shownOf}
+use Rattle.access.specs.Machine.{shownFrom}
+use Rattle.slave.specs.declared.config.SlaveConfig.{SlaveConfig}
+use Rattle.slave.specs.declared.state.Kind.{Kind}
+use Rattle.slave.specs.declared.state.Kind.the-variants.{Listen, RespondToWrite, RespondToRead}
+use Rattle.slave.specs.declared.state.Setting.{Setting}
+use Rattle.slave.specs.Rust.{into-slave, blocking-listen, blocking-respond-to-write, blocking-respond-to-read}
+use Rattle.slave.specs.Numbers.{commandNumber, statusNumber}
+use Rattle.slave.specs.Init.{initRefusal, initMachine, started}
+use Rattle.slave.specs.Machine.{slave, start}
+
+-- a refused call ends before any access
+abbrev pub seenAfter : Option Error → Shown → Shown
+seenAfter (some e) shown = noMore (some (failed e))
+seenAfter none shown = shown
+
+-- ---- init_slave
+
+unfoldable pub initShown : SlaveConfig → List ℕ → Shown
+initShown c answers = seenAfter (initRefusal c) (shownFrom initMachine [] (started c) answers)
+
+unfoldable pub rustInit : ℕ → SlaveConfig → List ℕ → Shown
+rustInit turns c answers = shownOf 0 (callOf (into-slave c) (λ _. done) turns) answers
+
+-- ---- listen and the two responders
+
+-- the data of a reply, and how many bytes the buffer of a receive takes
+pub record SlaveLent : Type 0 where
+  pub reply : List ℕ
+  pub room : ℕ
+
+abbrev pub sizeOf : Kind → SlaveLent → ℕ
+sizeOf Listen l = 0
+sizeOf RespondToWrite l = l .room
+sizeOf RespondToRead l = length (l .reply)
+
+-- the bytes that are lent for sending
+abbrev pub bytesOf : Kind → SlaveLent → List ℕ
+bytesOf Listen l = []
+bytesOf RespondToWrite l = []
+bytesOf RespondToRead l = l .reply
+
+abbrev pub settingOf : Chip → Kind → SlaveLent → Setting
+settingOf chip x l = record { chip = chip; kind = x; size = sizeOf x l }
+
+-- a responder takes no more than 65,535 bytes
+abbrev pub sizeRefusal : ℕ → Option Error
+sizeRefusal size = cond (ltb 65535 size) (some BufferTooLong) none
+
+unfoldable pub slaveShown : Chip → Kind → SlaveLent → List ℕ → Shown
+slaveShown chip x l answers = seenAfter (sizeRefusal (sizeOf x l)) (shownFrom (slave (settingOf chip x l)) (bytesOf x l) (start x) answers)
+
+abbrev pub rustProgram : ℕ → Chip → Kind → SlaveLent → Program
+rustProgram turns chip Listen l = callOf (blocking-listen chip) (λ c. returned (commandNumber c)) turns
+rustProgram turns chip RespondToWrite l = callOf (blocking-respond-to-write chip (l .room)) (λ n. returned n) turns
+rustProgram turns chip RespondToRead l = callOf (blocking-respond-to-read chip (l .reply)) (λ s. returned (statusNumber s)) turns
+
+unfoldable pub rustSlave : ℕ → Chip → Kind → SlaveLent → List ℕ → Shown
+rustSlave turns chip x l answers = shownOf 0 (rustProgram turns chip x l) answers
+
+-- document 01's accepted call, and one without an added cause of refusal
+abbrev pub Accepted : Kind → SlaveLent → Type 0
+Accepted x l = sizeOf x l ≤ 65535

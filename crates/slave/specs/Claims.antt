@@ -1,0 +1,47 @@
+-- What is claimed of the slave: it is the Rust, and a recorder who strikes out the payload learns nothing of it.
+use mathlib.Core.Path.{_≡_}
+use mathlib.Core.Bool.{true}
+use mathlib.Core.List.{List}
+use Prim.Native.Nat.{ℕ, _<_}
+use lib.ListN.{length, take}
+use Rattle.registers.specs.declared.chip.Chip.{Chip}
+use Rattle.access.specs.declared.ending.Ending.{Ending}
+use Rattle.access.specs.Record.{Shown, DifferInPayload, Same, SameStruck}
+use Rattle.slave.specs.declared.config.SlaveConfig.{SlaveConfig}
+use Rattle.slave.specs.declared.state.Kind.{Kind}
+use Rattle.slave.specs.declared.state.Kind.the-variants.{Listen, RespondToWrite, RespondToRead}
+use Rattle.slave.specs.declared.state.Setting.{Setting}
+use Rattle.slave.specs.declared.state.Move.{Move}
+use Rattle.slave.specs.Machine.{advance, start}
+use Rattle.slave.specs.Fits.{fits}
+use Rattle.slave.specs.Calls.{SlaveLent, Accepted, initShown, rustInit, slaveShown, rustSlave}
+
+-- theorem A: every configuration, and every call without an added cause of refusal, shows the Rust's record, end and arrived bytes
+pub record SlaveIsTheRust : Type 0 where
+  pub init : (c : SlaveConfig) (turns : ℕ) (answers : List ℕ) → length answers < turns → initShown c answers ≡ rustInit turns c answers
+  pub same : (chip : Chip) (x : Kind) (l : SlaveLent) → Accepted x l → (turns : ℕ) (answers : List ℕ) → length answers < turns
+      → slaveShown chip x l answers ≡ rustSlave turns chip x l answers
+
+-- any two ends
+abbrev pub Any : Ending → Ending → Type 0
+Any e f = Unit {0}
+
+-- theorem B, after begin and after each step
+pub record SlaveIsSecret : Type 0 where
+  -- two receives of one chip and buffer length, answers that differ only where the first owes a payload read
+  pub received : (chip : Chip) (l₁ l₂ : SlaveLent) → Accepted RespondToWrite l₁ → l₁ .room ≡ l₂ .room → (xs ys : List ℕ)
+      → DifferInPayload (slaveShown chip RespondToWrite l₁ xs .events) xs ys
+      → (i : ℕ) → SameStruck Same (slaveShown chip RespondToWrite l₁ (take i xs)) (slaveShown chip RespondToWrite l₂ (take i ys))
+  -- the payloads agree too
+  pub determined : (chip : Chip) (l₁ l₂ : SlaveLent) → l₁ .room ≡ l₂ .room → (answers : List ℕ) → slaveShown chip RespondToWrite l₁ answers ≡ slaveShown chip RespondToWrite l₂ answers
+  -- two replies at one chip, whatever their bytes and lengths, and the same answers
+  pub replied : (chip : Chip) (l₁ l₂ : SlaveLent) → Accepted RespondToRead l₁ → Accepted RespondToRead l₂ → (answers : List ℕ)
+      → (i : ℕ) → SameStruck Any (slaveShown chip RespondToRead l₁ (take i answers)) (slaveShown chip RespondToRead l₂ (take i answers))
+  -- of one length: the ends too
+  pub replied-alike : (chip : Chip) (l₁ l₂ : SlaveLent) → Accepted RespondToRead l₁ → length (l₁ .reply) ≡ length (l₂ .reply) → (answers : List ℕ)
+      → (i : ℕ) → SameStruck Same (slaveShown chip RespondToRead l₁ (take i answers)) (slaveShown chip RespondToRead l₂ (take i answers))
+
+-- an accepted call begins with a state that fits what is lent, and every step keeps it so
+pub record StatesFit : Type 0 where
+  pub begins : (g : Setting) → fits g (start (g .kind)) ≡ true
+  pub kept : (g : Setting) (m : Move) (a : ℕ) → fits g m ≡ true → fits g (advance g m a) ≡ true

@@ -1,0 +1,9 @@
+pub mod Rust
+pub mod Numbers
+pub mod Init
+pub mod Machine
+pub mod Fits
+pub mod Calls
+pub mod Steps
+pub mod Claims
+pub mod Edges
