@@ -1,0 +1,4 @@
+pub mod Numbers
+pub mod MasterStage
+pub mod MasterImage
+pub mod SlaveStage

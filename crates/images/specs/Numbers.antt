@@ -1,0 +1,62 @@
+-- Numbers that the blocks of several calls share: the entry, the chip, flags, and how a call is to end.
+use Prim.Native.Nat.{ℕ, _+_, _*_, _/_, _%_}
+use mathlib.Core.Bool.{Bool, true, false, cond}
+use lib.Dec.{eqb}
+use Rattle.registers.specs.declared.chip.Chip.{Chip}
+use Rattle.access.specs.declared.ending.Ending.{Ending}
+use Rattle.access.specs.declared.ending.Ending.the-variants.{Done, Failed}
+use Rattle.access.specs.Endings.{errorNumber}
+
+-- the entries, in the order of the C header
+abbrev pub initEntry : ℕ
+initEntry = 1
+
+abbrev pub transactionEntry : ℕ
+transactionEntry = 2
+
+abbrev pub writeReadEntry : ℕ
+writeReadEntry = 3
+
+abbrev pub writeEntry : ℕ
+writeEntry = 4
+
+abbrev pub readEntry : ℕ
+readEntry = 5
+
+abbrev pub initSlaveEntry : ℕ
+initSlaveEntry = 6
+
+abbrev pub listenEntry : ℕ
+listenEntry = 7
+
+abbrev pub respondToWriteEntry : ℕ
+respondToWriteEntry = 8
+
+abbrev pub respondToReadEntry : ℕ
+respondToReadEntry = 9
+
+abbrev pub flagNumber : Bool → ℕ
+flagNumber b = cond b 1 0
+
+abbrev pub flagsNumber : Bool → Bool → Bool → Bool → ℕ
+flagsNumber a b c d = flagNumber a + flagNumber b * 2 + flagNumber c * 4 + flagNumber d * 8
+
+-- the flag that counts 1, 2, 4 or 8 in a number
+abbrev pub flagAt : ℕ → ℕ → Bool
+flagAt weight n = eqb (n / weight % 2) 1
+
+-- 1 for i2c_v3, and 2 for ch32v4
+abbrev pub chipNumber : Chip → ℕ
+chipNumber c = flagsNumber (c .«i2c_v3») (c .ch32v4) false false
+
+abbrev pub chipOf : ℕ → Chip
+chipOf n = record { «i2c_v3» = flagAt 1 n; ch32v4 = flagAt 2 n }
+
+-- how a call is to end: the number of its error, or 0, and the value that it returns
+abbrev pub endingError : Ending → ℕ
+endingError (Done o) = 0
+endingError (Failed f) = errorNumber (f .error)
+
+abbrev pub endingValue : Ending → ℕ
+endingValue (Done o) = o .value
+endingValue (Failed f) = 0

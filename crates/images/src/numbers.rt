@@ -1,0 +1,118 @@
+// Numbers that the blocks of several calls share: the entry, the chip, flags, and how a call is to end.
+ghost use mathlib.Core.Path.{_≡_};
+ghost use Prim.Native.Nat.{_≤_, _<_};
+ghost use Rattle.access.specs.Endings.{errorOf, endingOf};
+ghost use Rattle.images.specs.Numbers.{flagNumber, flagsNumber, flagAt, chipNumber, chipOf, endingError, endingValue};
+use access::Ending;
+use access::Error;
+use registers::Chip;
+
+// The entries, in the order of the C header.
+pub const INIT: u8 = 1;
+
+pub const TRANSACTION: u8 = 2;
+
+pub const WRITE_READ: u8 = 3;
+
+pub const WRITE: u8 = 4;
+
+pub const READ: u8 = 5;
+
+pub const INIT_SLAVE: u8 = 6;
+
+pub const LISTEN: u8 = 7;
+
+pub const RESPOND_TO_WRITE: u8 = 8;
+
+pub const RESPOND_TO_READ: u8 = 9;
+
+pub fn flag_number(b: bool) -> u8
+    ensures { λ r. ⌜ r ≡ flagNumber b ⌝ }
+    ensures { λ r. ⌜ r ≤ 1 ⌝ }
+{
+    if b { 1 } else { 0 }
+}
+
+// Four flags in a number.
+pub fn flags_number(a: bool, b: bool, c: bool, d: bool) -> u8
+    ensures { λ r. ⌜ r ≡ flagsNumber a b c d ⌝ }
+{
+    flag_number(a) + flag_number(b) * 2 + flag_number(c) * 4 + flag_number(d) * 8
+}
+
+// The flag that counts 1, 2, 4 or 8 in a number.
+pub fn flag_at(weight: u8, number: u8) -> bool
+    requires { ⌜ 0 < weight ⌝ }
+    ensures { λ r. ⌜ r ≡ flagAt weight number ⌝ }
+{
+    number / weight % 2 == 1
+}
+
+pub fn chip_number(chip: Chip) -> u8
+    ensures { λ r. ⌜ r ≡ chipNumber chip ⌝ }
+{
+    flags_number(chip.i2c_v3, chip.ch32v4, false, false)
+}
+
+pub fn chip_of(number: u8) -> Chip
+    ensures { λ r. ⌜ r ≡ chipOf number ⌝ }
+{
+    Chip {
+        i2c_v3: flag_at(1, number),
+        ch32v4: flag_at(2, number),
+    }
+}
+
+fn error_of(number: u8) -> Error
+    ensures { λ r. ⌜ r ≡ errorOf number ⌝ }
+{
+    match number {
+        1 => Error::Bus,
+        2 => Error::Arbitration,
+        3 => Error::Nack,
+        4 => Error::Timeout,
+        5 => Error::Crc,
+        6 => Error::Overrun,
+        8 => Error::BufferTooLong,
+        9 => Error::InvalidAddress,
+        10 => Error::InvalidFrequency,
+        11 => Error::DividerTooLarge,
+        12 => Error::InputTooSlow,
+        13 => Error::TooManyOperations,
+        14 => Error::LengthMismatch,
+        15 => Error::InvalidState,
+        _ => Error::InvalidArgument,
+    }
+}
+
+// How a call is to end: the number of its error, or 0, and the value that it returns.
+pub fn ending_error(ending: Ending) -> u8
+    ensures { λ r. ⌜ r ≡ endingError ending ⌝ }
+{
+    match ending {
+        Ending::Done(_) => 0,
+        Ending::Failed(failure) => {
+            let error = failure.error;
+            access::ending::error_number(error)
+        }
+    }
+}
+
+pub fn ending_value(ending: Ending) -> u16
+    ensures { λ r. ⌜ r ≡ endingValue ending ⌝ }
+{
+    match ending {
+        Ending::Done(outcome) => outcome.value,
+        Ending::Failed(_) => 0,
+    }
+}
+
+pub fn ending_of(error: u8, value: u16) -> Ending
+    ensures { λ r. ⌜ r ≡ endingOf error value ⌝ }
+{
+    if error == 0 {
+        access::ending::returned(value)
+    } else {
+        access::ending::failed(error_of(error))
+    }
+}
