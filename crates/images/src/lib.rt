@@ -1,5 +1,8 @@
 // What the states of the calls are in a block.
+pub mod init_image;
+pub mod init_slave_image;
 pub mod master_image;
 pub mod master_stage;
 pub mod numbers;
+pub mod slave_image;
 pub mod slave_stage;

@@ -1,0 +1,35 @@
+-- The state of a slave call in a block.
+use Prim.Native.Nat.{ℕ}
+use mathlib.Core.Bool.{cond}
+use lib.Dec.{eqb}
+use Rattle.block.specs.declared.fields.Fields.{Fields}
+use Rattle.block.specs.Fields.{sameFields}
+use Rattle.access.specs.Endings.{endingOf}
+use Rattle.slave.specs.declared.state.Kind.{Kind}
+use Rattle.slave.specs.declared.state.Kind.the-variants as kind
+use Rattle.slave.specs.declared.state.State.{State}
+use Rattle.images.specs.declared.slave_image.SlaveFound.{SlaveFound}
+use Rattle.images.specs.declared.slave_image.SlaveFound.the-variants.{At, Nothing}
+use Rattle.images.specs.Numbers.{listenEntry, respondToWriteEntry, respondToReadEntry, chipNumber, chipOf, endingError, endingValue}
+use Rattle.images.specs.SlaveStage.{stageGroup, stageWhat, stagePart, stageOf}
+
+abbrev pub kindEntry : Kind → ℕ
+kindEntry kind.Listen = listenEntry
+kindEntry kind.RespondToWrite = respondToWriteEntry
+kindEntry kind.RespondToRead = respondToReadEntry
+
+unfoldable pub kindOf : ℕ → Kind
+kindOf entry = cond (eqb entry listenEntry) kind.Listen (cond (eqb entry respondToWriteEntry) kind.RespondToWrite kind.RespondToRead)
+
+-- what a block says of a state
+unfoldable pub slaveFields : State → Fields
+slaveFields s = record { entry = kindEntry (s .kind); chip = chipNumber (s .chip); option = 0; stage = stageGroup (s .stage); what = stageWhat (s .stage); part = stagePart (s .stage); flags = 0; error = endingError (s .progress .ending); address = 0; run = 0; left = 0; place = 0; word = s .progress .word; divider = 0; rise = 0; value = endingValue (s .progress .ending); count = s .progress .count; second = 0; mhz = 0; unused = 0 }
+
+-- the state that a block says, if it is the image of one
+unfoldable pub slaveOf : Fields → State
+slaveOf f =
+    record { chip = chipOf (f .chip); kind = kindOf (f .entry); stage = stageOf (f .stage) (f .what) (f .part); progress = record { count = f .count; word = f .word; ending = endingOf (f .error) (f .value) } }
+
+-- the state whose image a block is
+unfoldable pub slaveIn : Fields → SlaveFound
+slaveIn f = cond (sameFields (slaveFields (slaveOf f)) f) (At (slaveOf f)) Nothing
