@@ -7,6 +7,7 @@ use Rattle.registers.specs.Numbers.{registerNumber, registerOf}
 use Rattle.access.specs.declared.next.Next.{Next}
 use Rattle.access.specs.declared.next.Next.the-variants.{Read, Write, Clock, End}
 use Rattle.access.specs.Endings.{endingNumber, endingOf}
+use Rattle.access.specs.declared.ending.Ending.{Ending}
 use Rattle.access.specs.declared.ending.Ending.the-variants.{Done, Failed}
 
 abbrev pub nextNumber : Next → ℕ
@@ -23,9 +24,12 @@ nextOf n =
     (cond (eqb (n % 256) 2) (Write (registerOf (n / 256 % 256)) (n / 65536 % 65536)) Clock))
 
 -- the values are 16-bit words, as they are in the code
+abbrev pub EndHoldsWords : Ending → Type 0
+EndHoldsWords (Done o) = o .value < 65536
+EndHoldsWords (Failed f) = Unit {0}
+
 abbrev pub HoldsWords : Next → Type 0
 HoldsWords (Read r) = Unit {0}
 HoldsWords (Write r v) = v < 65536
 HoldsWords Clock = Unit {0}
-HoldsWords (End (Done o)) = o .value < 65536
-HoldsWords (End (Failed f)) = Unit {0}
+HoldsWords (End e) = EndHoldsWords e

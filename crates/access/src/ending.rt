@@ -1,5 +1,6 @@
 // How a call ends.
 ghost use mathlib.Core.Path.{_≡_};
+ghost use Rattle.access.specs.Numbers.{EndHoldsWords};
 ghost use Rattle.access.specs.Endings.{errorNumber, endingNumber, failureOf, done, returned, failed, isMet, hasFailed, isDone};
 
 // The Rust's `Error`, and behind it the refusals that the port adds. (The Rust's `ZeroLengthTransfer`, 7, is never given.)
@@ -61,6 +62,7 @@ pub fn error_number(error: Error) -> u8
 // An ending as C sees it: its number in bits 8 to 15, what is returned in bits 16 to 31.
 pub fn ending_number(ending: Ending) -> u64
     ensures { λ r. ⌜ r ≡ endingNumber ending ⌝ }
+    ensures { λ _. ⌜ EndHoldsWords ending ⌝ }
 {
     match ending {
         Ending::Done(outcome) => outcome.value as u64 * 65536,

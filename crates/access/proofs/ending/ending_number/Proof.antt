@@ -15,5 +15,5 @@ ending-number-spec =
     (λ c κs. search needs)
     (λ c. search needs)
     (λ c. search needs)
-    (λ c. rw (c .before .before .ending .given .1))
-    (λ c. rw (c .before .before .ending2 .given .1, c .error-number .ensures)))
+    (λ c. (rw (c .before .before .ending .given .1), rw (c .before .before .ending .given .1) (search needs)))
+    (λ c. (rw (c .before .before .ending2 .given .1, c .error-number .ensures), rw (c .before .before .ending2 .given .1) tt)))

@@ -1,0 +1,2 @@
+// What C programs call.
+pub mod numbered;
