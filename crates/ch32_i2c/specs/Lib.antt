@@ -1,1 +1,4 @@
-pub mod Entries
+pub mod Left
+pub mod Fed
+pub mod Init
+pub mod Transfer

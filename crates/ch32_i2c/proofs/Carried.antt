@@ -1,0 +1,138 @@
+-- A machine whose states stand in blocks is seen through begin and step as it is.
+-- Assumes nothing.
+use mathlib.Core.Path.{_≡_, refl, ap, sym, _∙_}
+use mathlib.Core.Bool.{Bool, true, false, true≢false}
+use mathlib.Core.List.{List, [], _∷_, map}
+use Prim.Native.Nat.{ℕ, suc}
+use lib.ListN.{length, length-set}
+use Rattle.access.specs.declared.ending.Error.the-variants.{InvalidState}
+use Rattle.access.specs.declared.need.Need.{Need}
+use Rattle.access.specs.declared.need.Need.the-variants as need
+use Rattle.access.specs.declared.next.Next.{Next}
+use Rattle.access.specs.declared.next.Next.the-variants as next
+use Rattle.access.specs.Endings.{failed}
+use Rattle.access.specs.Record.{Shown}
+use Rattle.access.specs.Machine.{Machine, filled, kept, seenOwed, seenAnswered, shownFrom, isEnd}
+use Rattle.ch32_i2c.specs.Left.{Left, left, refusedWith}
+use Rattle.ch32_i2c.specs.Fed.{Entry, leftsFrom, lastFrom, handedOut, nextsOf, inTurn, stored}
+
+kept-length : (n : Need) (a : ℕ) (r : List ℕ) → length (kept n a r) ≡ length r
+kept-length (need.Read x) a r = refl
+kept-length (need.Write x v) a r = refl
+kept-length need.Clock a r = refl
+kept-length (need.Send p) a r = refl
+kept-length (need.Keep p) a r = length-set r p _
+kept-length need.Drop a r = refl
+kept-length (need.End e) a r = refl
+
+-- ---- one need
+
+owed-next : (bytes : List ℕ) (n : Need) → filled bytes n ∷ [] ≡ inTurn 1 (nextsOf (seenOwed bytes n))
+owed-next bytes (need.Read x) = refl
+owed-next bytes (need.Write x v) = refl
+owed-next bytes need.Clock = refl
+owed-next bytes (need.Send p) = refl
+owed-next bytes (need.Keep p) = refl
+owed-next bytes need.Drop = refl
+owed-next bytes (need.End e) = refl
+
+owed-stored : (bytes : List ℕ) (n : Need) (r : List ℕ) → r ≡ stored (seenOwed bytes n .arrivals) r
+owed-stored bytes (need.Read x) r = refl
+owed-stored bytes (need.Write x v) r = refl
+owed-stored bytes need.Clock r = refl
+owed-stored bytes (need.Send p) r = refl
+owed-stored bytes (need.Keep p) r = refl
+owed-stored bytes need.Drop r = refl
+owed-stored bytes (need.End e) r = refl
+
+answered-next : (bytes : List ℕ) (n : Need) (a : ℕ) (rest : Shown) (k : ℕ) → isEnd n ≡ false → filled bytes n ∷ inTurn k (nextsOf rest) ≡ inTurn (suc k) (nextsOf (seenAnswered bytes n a rest))
+answered-next bytes (need.Read x) a rest k e = refl
+answered-next bytes (need.Write x v) a rest k e = refl
+answered-next bytes need.Clock a rest k e = refl
+answered-next bytes (need.Send p) a rest k e = refl
+answered-next bytes (need.Keep p) a rest k e = refl
+answered-next bytes need.Drop a rest k e = refl
+answered-next bytes (need.End x) a rest k e = absurd (true≢false e)
+
+answered-stored : (bytes : List ℕ) (n : Need) (a : ℕ) (rest : Shown) (r : List ℕ) → isEnd n ≡ false → stored (rest .arrivals) (kept n a r) ≡ stored (seenAnswered bytes n a rest .arrivals) r
+answered-stored bytes (need.Read x) a rest r e = refl
+answered-stored bytes (need.Write x v) a rest r e = refl
+answered-stored bytes need.Clock a rest r e = refl
+answered-stored bytes (need.Send p) a rest r e = refl
+answered-stored bytes (need.Keep p) a rest r e = refl
+answered-stored bytes need.Drop a rest r e = refl
+answered-stored bytes (need.End x) a rest r e = absurd (true≢false e)
+
+ended-next : (bytes : List ℕ) (n : Need) (a : ℕ) (rest : Shown) (k : ℕ) → isEnd n ≡ true → filled bytes n ∷ inTurn k [] ≡ inTurn (suc k) (nextsOf (seenAnswered bytes n a rest))
+ended-next bytes (need.Read x) a rest k e = absurd (true≢false (sym e))
+ended-next bytes (need.Write x v) a rest k e = absurd (true≢false (sym e))
+ended-next bytes need.Clock a rest k e = absurd (true≢false (sym e))
+ended-next bytes (need.Send p) a rest k e = absurd (true≢false (sym e))
+ended-next bytes (need.Keep p) a rest k e = absurd (true≢false (sym e))
+ended-next bytes need.Drop a rest k e = absurd (true≢false (sym e))
+ended-next bytes (need.End x) a rest k e = refl
+
+ended-stored : (bytes : List ℕ) (n : Need) (a : ℕ) (rest : Shown) (r : List ℕ) → isEnd n ≡ true → r ≡ stored (seenAnswered bytes n a rest .arrivals) r
+ended-stored bytes (need.Read x) a rest r e = absurd (true≢false (sym e))
+ended-stored bytes (need.Write x v) a rest r e = absurd (true≢false (sym e))
+ended-stored bytes need.Clock a rest r e = absurd (true≢false (sym e))
+ended-stored bytes (need.Send p) a rest r e = absurd (true≢false (sym e))
+ended-stored bytes (need.Keep p) a rest r e = absurd (true≢false (sym e))
+ended-stored bytes need.Drop a rest r e = absurd (true≢false (sym e))
+ended-stored bytes (need.End x) a rest r e = refl
+
+-- ---- the machine m, with these bytes lent and so many bytes to read, seen through the entry c
+
+pub record Carries (m : Machine) (bytes : List ℕ) (room : ℕ) (c : Entry) (image : m .State → List ℕ) (Good : m .State → Type 0) : Type 0 where
+  pub stays : (s : m .State) (a : ℕ) → Good s → Good (m .move s a)
+  pub taken : (s : m .State) (r : List ℕ) (a : ℕ) → Good s → length r ≡ room → isEnd (m .need s) ≡ false
+      → c .step (image s) r a ≡ left (filled bytes (m .need (m .move s a))) (image (m .move s a)) (kept (m .need s) a r)
+  pub ended : (s : m .State) (r : List ℕ) (a : ℕ) → Good s → length r ≡ room → isEnd (m .need s) ≡ true → c .step (image s) r a ≡ refusedWith InvalidState (image s) r
+
+module _ {m : Machine} {bytes : List ℕ} {room : ℕ} {c : Entry} {image : m .State → List ℕ} {Good : m .State → Type 0} (k : Carries m bytes room c image Good) where
+  abbrev leftAt : m .State → List ℕ → Left
+  leftAt s r = left (filled bytes (m .need s)) (image s) r
+
+  -- behind the end
+  ended-again : (s : m .State) (r : List ℕ) → Good s → length r ≡ room → isEnd (m .need s) ≡ true → (answers : List ℕ)
+      → handedOut (leftsFrom c (refusedWith InvalidState (image s) r) answers) ≡ inTurn (suc (length answers)) []
+  ended-again s r g l e [] = refl
+  ended-again s r g l e (a ∷ answers) =
+      ap (λ (h : Left). next.End (failed InvalidState) ∷ handedOut (leftsFrom c h answers)) (k .ended s r a g l e) ∙ ap (λ (ns : List Next). next.End (failed InvalidState) ∷ ns) (ended-again s r g l e answers)
+
+  ended-read : (s : m .State) (r : List ℕ) → Good s → length r ≡ room → isEnd (m .need s) ≡ true → (answers : List ℕ) → lastFrom c (refusedWith InvalidState (image s) r) answers .read ≡ r
+  ended-read s r g l e [] = refl
+  ended-read s r g l e (a ∷ answers) = ap (λ (h : Left). lastFrom c h answers .read) (k .ended s r a g l e) ∙ ended-read s r g l e answers
+
+  pub carried-accesses : (s : m .State) (r : List ℕ) → Good s → length r ≡ room → (answers : List ℕ)
+      → handedOut (leftsFrom c (leftAt s r) answers) ≡ inTurn (suc (length answers)) (nextsOf (shownFrom m bytes s answers))
+  carried-accesses s r g l [] = owed-next bytes (m .need s)
+  carried-accesses s r g l (a ∷ answers) = go (isEnd (m .need s)) refl (carried-accesses (m .move s a) (kept (m .need s) a r) (k .stays s a g) (kept-length (m .need s) a r ∙ l) answers)
+    where
+      go : (b : Bool) → isEnd (m .need s) ≡ b
+          → handedOut (leftsFrom c (leftAt (m .move s a) (kept (m .need s) a r)) answers) ≡ inTurn (suc (length answers)) (nextsOf (shownFrom m bytes (m .move s a) answers))
+          → handedOut (leftsFrom c (leftAt s r) (a ∷ answers)) ≡ inTurn (suc (suc (length answers))) (nextsOf (shownFrom m bytes s (a ∷ answers)))
+      go false e h =
+          ap (λ (x : Left). filled bytes (m .need s) ∷ handedOut (leftsFrom c x answers)) (k .taken s r a g l e)
+          ∙ ap (λ (ns : List Next). filled bytes (m .need s) ∷ ns) h
+          ∙ answered-next bytes (m .need s) a (shownFrom m bytes (m .move s a) answers) (suc (length answers)) e
+      go true e h =
+          ap (λ (x : Left). filled bytes (m .need s) ∷ handedOut (leftsFrom c x answers)) (k .ended s r a g l e)
+          ∙ ap (λ (ns : List Next). filled bytes (m .need s) ∷ ns) (ended-again s r g l e answers)
+          ∙ ended-next bytes (m .need s) a (shownFrom m bytes (m .move s a) answers) (suc (length answers)) e
+
+  pub carried-read : (s : m .State) (r : List ℕ) → Good s → length r ≡ room → (answers : List ℕ)
+      → lastFrom c (leftAt s r) answers .read ≡ stored (shownFrom m bytes s answers .arrivals) r
+  carried-read s r g l [] = owed-stored bytes (m .need s) r
+  carried-read s r g l (a ∷ answers) = go (isEnd (m .need s)) refl (carried-read (m .move s a) (kept (m .need s) a r) (k .stays s a g) (kept-length (m .need s) a r ∙ l) answers)
+    where
+      go : (b : Bool) → isEnd (m .need s) ≡ b → lastFrom c (leftAt (m .move s a) (kept (m .need s) a r)) answers .read ≡ stored (shownFrom m bytes (m .move s a) answers .arrivals) (kept (m .need s) a r)
+          → lastFrom c (leftAt s r) (a ∷ answers) .read ≡ stored (shownFrom m bytes s (a ∷ answers) .arrivals) r
+      go false e h =
+          ap (λ (x : Left). lastFrom c x answers .read) (k .taken s r a g l e)
+          ∙ h
+          ∙ answered-stored bytes (m .need s) a (shownFrom m bytes (m .move s a) answers) r e
+      go true e h =
+          ap (λ (x : Left). lastFrom c x answers .read) (k .ended s r a g l e)
+          ∙ ended-read s r g l e answers
+          ∙ ended-stored bytes (m .need s) a (shownFrom m bytes (m .move s a) answers) r e
