@@ -26,6 +26,7 @@ pub fn send_status(size: u16, sent: u32) -> u16
     }
 }
 
+// One less, and 0 of 0.
 pub fn one_less(n: u32) -> u32
     ensures { λ r. ⌜ r ≡ pred n ⌝ }
 {
