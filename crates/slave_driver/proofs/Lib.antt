@@ -1,0 +1,2 @@
+pub mod InitLaws
+pub mod CallLaws

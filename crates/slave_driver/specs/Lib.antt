@@ -1,0 +1,2 @@
+pub mod Validated
+pub mod Lent

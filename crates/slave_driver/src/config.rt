@@ -1,0 +1,50 @@
+// Which configurations `init_slave` takes.
+ghost use mathlib.Core.Path.{_≡_};
+ghost use Rattle.slave.specs.Init.{ownFault, secondFault, configFault};
+ghost use Rattle.slave_driver.specs.Validated.{validated};
+use access::Error;
+use errors::Checked;
+use slave::SecondAddress;
+use slave::SlaveAddress;
+use slave::SlaveConfig;
+
+// Above 127, or 0 without general call; of ten bits, above 1023.
+fn own_fault(own: SlaveAddress, general: bool) -> bool
+    ensures { λ r. ⌜ r ≡ ownFault own general ⌝ }
+{
+    match own {
+        SlaveAddress::SevenBit(a) => (127 < a) | ((a == 0) & !general),
+        SlaveAddress::TenBit(a) => 1023 < a,
+    }
+}
+
+// Above 127, or beside an address of ten bits.
+fn second_fault(own: SlaveAddress, second: SecondAddress) -> bool
+    ensures { λ r. ⌜ r ≡ secondFault own second ⌝ }
+{
+    match second {
+        SecondAddress::Nothing => false,
+        SecondAddress::At(b) => match own {
+            SlaveAddress::SevenBit(_) => 127 < b,
+            SlaveAddress::TenBit(_) => true,
+        },
+    }
+}
+
+fn config_fault(config: SlaveConfig) -> bool
+    ensures { λ r. ⌜ r ≡ configFault config ⌝ }
+{
+    let own = config.address;
+    let second = config.second_address;
+    own_fault(own, config.general_call) | second_fault(own, second)
+}
+
+pub fn validate(config: SlaveConfig) -> Checked
+    ensures { λ r. ⌜ r ≡ validated config ⌝ }
+{
+    if config_fault(config) {
+        Checked::Failed(Error::InvalidAddress)
+    } else {
+        Checked::Fine
+    }
+}
