@@ -1,4 +1,6 @@
 pub mod Left
-pub mod Fed
 pub mod Init
 pub mod Transfer
+pub mod InitSlave
+pub mod Response
+pub mod Fed

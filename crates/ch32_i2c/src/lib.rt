@@ -1,4 +1,6 @@
 // What C programs call: nine calls, each with a begin and a step. docs/STATE.md describes the block.
 pub mod init;
+pub mod init_slave;
 mod left;
+pub mod response;
 pub mod transfer;

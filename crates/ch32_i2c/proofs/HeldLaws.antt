@@ -1,0 +1,71 @@
+-- A block that is the image of a state holds it.
+-- Assumes nothing.
+use mathlib.Core.Path.{_≡_, refl, ap, sym, _∙_}
+use mathlib.Core.List.{List}
+use mathlib.Core.Bool.{Bool, true, false, cond}
+use Prim.Native.Nat.{ℕ}
+use lib.Dec.{eqb}
+use lib.ListN.{length}
+use borrow.Author.Tests.{eq-eqb}
+use Rattle.block.specs.declared.fields.Fields.{Fields}
+use Rattle.block.specs.Bytes32.{blockSize, fieldsOf, bytesOf}
+use Rattle.block.proofs.Codec.{said-back, image-length}
+use Rattle.timing.specs.declared.init.State as init
+use Rattle.master.specs.declared.state.State as master
+use Rattle.slave.specs.declared.init.InitState.{InitState}
+use Rattle.slave.specs.declared.state.State as slave
+use Rattle.images.specs.declared.init_image.InitFound.the-variants as initFound
+use Rattle.images.specs.declared.master_image.MasterFound.the-variants as masterFound
+use Rattle.images.specs.declared.init_slave_image.InitSlaveFound.the-variants as initSlaveFound
+use Rattle.images.specs.declared.slave_image.SlaveFound.the-variants as slaveFound
+use Rattle.images.specs.InitImage.{initFields, initIn}
+use Rattle.images.specs.MasterImage.{masterFields, masterIn}
+use Rattle.images.specs.MasterImage as masterImage
+use Rattle.images.specs.InitSlaveImage.{initSlaveFields, initSlaveIn}
+use Rattle.images.specs.SlaveImage.{slaveFields, slaveIn}
+use Rattle.images.specs.SlaveImage as slaveImage
+use Rattle.images.proofs.InitImageLaws.{init-found}
+use Rattle.images.proofs.MasterImageLaws.{master-found}
+use Rattle.images.proofs.InitSlaveImageLaws.{init-slave-found}
+use Rattle.images.proofs.SlaveImageLaws.{slave-found}
+use Rattle.ch32_i2c.specs.Init.{initHeld}
+use Rattle.ch32_i2c.specs.Transfer.{masterHeld}
+use Rattle.ch32_i2c.specs.InitSlave.{initSlaveHeld}
+use Rattle.ch32_i2c.specs.Response.{slaveHeld}
+
+-- what a block of 32 bytes that says f is found to hold, and the same where the entry is asked first
+held : {F : Type 0} (find : Fields → F) (nothing : F) (f : Fields) → cond (eqb (length (bytesOf f)) blockSize) (find (fieldsOf (bytesOf f))) nothing ≡ find f
+held find nothing f = ap (λ (n : ℕ). cond (eqb n blockSize) (find (fieldsOf (bytesOf f))) nothing) (image-length f) ∙ ap find (said-back f)
+
+asked : {F : Type 0} (find : Fields → F) (nothing : F) (f : Fields) (entry : ℕ) → f .entry ≡ entry → cond (eqb (f .entry) entry) (find f) nothing ≡ find f
+asked find nothing f entry e = ap (λ (b : Bool). cond b (find f) nothing) (eq-eqb (f .entry) entry e)
+
+pub init-held : (s : init.State) → initHeld (bytesOf (initFields s)) ≡ initFound.At s
+unfolding initHeld
+init-held s = held initIn initFound.Nothing (initFields s) ∙ init-found s
+
+pub init-slave-held : (s : InitState) → initSlaveHeld (bytesOf (initSlaveFields s)) ≡ initSlaveFound.At s
+unfolding initSlaveHeld
+init-slave-held s = held initSlaveIn initSlaveFound.Nothing (initSlaveFields s) ∙ init-slave-found s
+
+master-entry : (s : master.State) → masterFields s .entry ≡ masterImage.kindEntry (s .call .kind)
+unfolding masterFields
+master-entry s = refl
+
+pub master-held : (s : master.State) → masterHeld (masterImage.kindEntry (s .call .kind)) (bytesOf (masterFields s)) ≡ masterFound.At s
+unfolding masterHeld
+master-held s =
+    held (λ (f : Fields). cond (eqb (f .entry) (masterImage.kindEntry (s .call .kind))) (masterIn f) masterFound.Nothing) masterFound.Nothing (masterFields s)
+    ∙ asked masterIn masterFound.Nothing (masterFields s) (masterImage.kindEntry (s .call .kind)) (master-entry s)
+    ∙ master-found s
+
+slave-entry : (s : slave.State) → slaveFields s .entry ≡ slaveImage.kindEntry (s .kind)
+unfolding slaveFields
+slave-entry s = refl
+
+pub slave-held : (s : slave.State) → slaveHeld (slaveImage.kindEntry (s .kind)) (bytesOf (slaveFields s)) ≡ slaveFound.At s
+unfolding slaveHeld
+slave-held s =
+    held (λ (f : Fields). cond (eqb (f .entry) (slaveImage.kindEntry (s .kind))) (slaveIn f) slaveFound.Nothing) slaveFound.Nothing (slaveFields s)
+    ∙ asked slaveIn slaveFound.Nothing (slaveFields s) (slaveImage.kindEntry (s .kind)) (slave-entry s)
+    ∙ slave-found s
