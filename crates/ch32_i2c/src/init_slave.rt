@@ -59,7 +59,7 @@ pub extern "C" fn ch32_i2c_init_slave_begin(
     general_call: u8,
     clock_stretching: u8,
 ) -> u64
-    ensures { λ r. ⌜ Leaves (initSlaveBegin (now (block .entry)) ten_bit address has_second second general_call clock_stretching) r (now (block .exit)) [] ⌝ }
+    ensures { λ r. ⌜ Leaves (initSlaveBegin (now (block .entry)) «ten_bit» address «has_second» second «general_call» «clock_stretching») r (now (block .exit)) [] ⌝ }
 {
     if block.len() != bytes32::BLOCK_SIZE {
         return left::refusal(Error::InvalidState);

@@ -1,1 +1,0 @@
-use Prim.Native.Nat.{ℕ}
