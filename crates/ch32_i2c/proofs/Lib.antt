@@ -1,3 +1,8 @@
+pub mod LeavesLaws
+pub mod InitLeaves
+pub mod MasterLeaves
+pub mod InitSlaveLeaves
+pub mod SlaveLeaves
 pub mod Carried
 pub mod HeldLaws
 pub mod InitCarried

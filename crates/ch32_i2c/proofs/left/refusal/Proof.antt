@@ -1,3 +1,7 @@
+use mathlib.Core.Path.{_∙_, ap}
+use Rattle.access.specs.declared.ending.Ending.{Ending}
+use Rattle.access.specs.declared.next.Next.the-variants as next
+use Rattle.access.specs.Numbers.{nextNumber}
 use borrow.Author.Needs.{needs}
 use Rattle.ch32_i2c.proofs.left.refusal.Statement.{statement}
 use Rattle.ch32_i2c.proofs.left.refusal.Tie as tie
@@ -16,7 +20,7 @@ number-requires c κs = search needs
 
 -- src/left.rt:10:1
 returns : tie.Need-returns
-returns c = ?
+returns c = c .number .ensures .0 ∙ ap (λ (e : Ending). nextNumber (next.End e)) (c .before .failed .ensures)
 
 pub refusal-spec : {M : Type 1} → statement M
 refusal-spec = tie.close (tie.spec failed-requires number-requires returns)

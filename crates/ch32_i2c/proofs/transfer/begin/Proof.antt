@@ -1,3 +1,7 @@
+use mathlib.Core.Path.{_∙_, sym}
+use Rattle.access.specs.declared.ending.Error.the-variants.{InvalidState, InvalidArgument}
+use Rattle.ch32_i2c.specs.Transfer.{masterBegin}
+use Rattle.ch32_i2c.proofs.LeavesLaws.{refused-leaves, left-leaves, short, then, else}
 use borrow.Author.Needs.{needs}
 use Rattle.ch32_i2c.proofs.transfer.begin.Statement.{statement}
 use Rattle.ch32_i2c.proofs.transfer.begin.Tie as tie
@@ -13,7 +17,8 @@ refusal-requires c κs = search needs
 
 -- src/transfer.rt:59:9
 returns : tie.Need-returns
-returns c = ?
+unfolding masterBegin
+returns c = refused-leaves _ InvalidState _ _ _ (c .refusal .ensures) (short _ _ _ (c .before .if1 .taken))
 
 -- src/transfer.rt:62:9
 refusal-requires-2 : tie.Need-refusal-requires-2
@@ -21,7 +26,8 @@ refusal-requires-2 c κs = search needs
 
 -- src/transfer.rt:62:9
 returns-2 : tie.Need-returns-2
-returns-2 c = ?
+unfolding masterBegin
+returns-2 c = refused-leaves _ InvalidArgument _ _ _ (c .refusal2 .ensures) (then _ _ _ _ _ (c .before .before .if1 .left) (c .before .if2 .taken))
 
 -- src/transfer.rt:64:11
 begin-requires : tie.Need-begin-requires
@@ -49,10 +55,12 @@ same-length c = search needs
 
 -- src/transfer.rt:48:1
 returns-3 : tie.Need-returns-3
+unfolding masterBegin
 returns-3 c = ?
 
 -- src/transfer.rt:48:1
 returns-4 : tie.Need-returns-4
+unfolding masterBegin
 returns-4 c = ?
 
 pub begin-spec : {M : Type 1} → statement M
