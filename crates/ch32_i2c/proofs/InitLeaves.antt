@@ -17,6 +17,8 @@ use Rattle.block.specs.declared.fields.Fields.{Fields}
 use Rattle.block.specs.Bytes32.{blockSize, fieldsOf, bytesOf}
 use Rattle.ch32_i2c.specs.Left.{Left, left, refusedWith, Leaves}
 use Rattle.ch32_i2c.proofs.LeavesLaws.{left-leaves, read-leaves, refused-leaves, short, whole, then, else, found-whole}
+use Rattle.registers.specs.declared.chip.Chip.{Chip}
+use Rattle.timing.specs.declared.settings.Duty.{Duty}
 use Rattle.timing.specs.declared.init.State.{State}
 use Rattle.timing.specs.declared.init.Stepped.{Stepped}
 use Rattle.timing.specs.declared.init.Begun.{Begun}
@@ -79,3 +81,8 @@ module _ (b : List ℕ) (a : ℕ) (n : ℕ) where
   step-held s e out eo k w b′ eb =
       left-leaves _ (out .next) n b′ (bytesOf (initFields (out .state))) [] k w eb
       (ap (λ (o : Stepped). left (o .next) (bytesOf (initFields (o .state))) []) eo ∙ ap (λ (f : InitFound). heldLeft f b a) e)
+
+-- ---- the chip and the duty that C's numbers mean
+
+pub set-up : (chip input frequency duty : ℕ) (k : Chip) (d : Duty) (g : Begun) → k ≡ chipOf chip → d ≡ dutyOf duty → g ≡ begin k input frequency d → g ≡ begin (chipOf chip) input frequency (dutyOf duty)
+set-up chip input frequency duty k d g ek ed q = q ∙ ap (λ (k : Chip). begin k input frequency d) ek ∙ ap (λ (d : Duty). begin (chipOf chip) input frequency d) ed

@@ -13,7 +13,7 @@ use Rattle.access.specs.declared.next.Next.the-variants as next
 use Rattle.access.specs.Endings.{failed}
 use Rattle.access.specs.Numbers.{nextNumber, HoldsWords}
 use Rattle.block.specs.Bytes32.{blockSize}
-use Rattle.ch32_i2c.specs.Left.{Left, left, refusedWith, Leaves}
+use Rattle.ch32_i2c.specs.Left.{Left, left, refusedWith, Leaves, LeavesBlock}
 
 -- the definition's outcome is this one
 pub left-leaves : (h : Left) (x : Next) (n : ℕ) (b b′ r : List ℕ) → n ≡ nextNumber x → HoldsWords x → b ≡ b′ → left x b′ r ≡ h → Leaves h n b r
@@ -24,6 +24,9 @@ read-leaves h x n b b′ r r′ number words block read e = subst (λ (h : Left)
 
 pub refused-leaves : (h : Left) (e : Error) (n : ℕ) (b r : List ℕ) → n ≡ nextNumber (next.End (failed e)) → refusedWith e b r ≡ h → Leaves h n b r
 refused-leaves h e n b r number q = left-leaves h (next.End (failed e)) n b b r number tt refl q
+
+pub block-leaves : {h : Left} {n : ℕ} {b r : List ℕ} → Leaves h n b r → LeavesBlock h n b
+block-leaves l = record { number = l .number; words = l .words; block = l .block }
 
 -- a block that has not 32 bytes, and one that has
 module _ {A : Type 0} (b : List ℕ) where

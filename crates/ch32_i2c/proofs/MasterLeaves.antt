@@ -1,6 +1,6 @@
 -- What begin and step of a transfer leave.
 -- Assumes nothing.
-use mathlib.Core.Path.{_≡_, refl, ap, sym, _∙_}
+use mathlib.Core.Path.{_≡_, refl, ap, sym, subst, _∙_}
 use mathlib.Core.Bool.{Bool, true, false, cond}
 use mathlib.Core.List.{List, []}
 use Prim.Native.Nat.{ℕ}
@@ -18,6 +18,8 @@ use Rattle.block.specs.Bytes32.{blockSize, fieldsOf, bytesOf}
 use Rattle.ch32_i2c.specs.Left.{Left, left, refusedWith, Leaves}
 use Rattle.ch32_i2c.proofs.LeavesLaws.{left-leaves, read-leaves, refused-leaves, short, whole, then, else, found-whole}
 use Rattle.master.specs.declared.call.Call.{Call}
+use Rattle.master.specs.declared.call.FrameOptions.{FrameOptions}
+use Rattle.master.specs.declared.call.Kind.the-variants as kind
 use Rattle.master.specs.declared.state.State.{State}
 use Rattle.master.specs.declared.state.Stepped.{Stepped}
 use Rattle.master.specs.declared.state.Begun.{Begun}
@@ -26,8 +28,8 @@ use Rattle.master.specs.Calls.{Lent, lentWith}
 use Rattle.master.specs.Steps.{begin, step, stepRead}
 use Rattle.images.specs.declared.master_image.MasterFound.{MasterFound}
 use Rattle.images.specs.declared.master_image.MasterFound.the-variants as found
-use Rattle.images.specs.MasterImage.{masterFields, masterIn}
-use Rattle.ch32_i2c.specs.Transfer.{begunLeft, masterBegin, masterHeld, heldLeft, masterStep}
+use Rattle.images.specs.MasterImage.{masterFields, masterIn, frameOptionsOf}
+use Rattle.ch32_i2c.specs.Transfer.{callOf, begunLeft, masterBegin, masterHeld, heldLeft, masterStep}
 
 -- ---- begin
 
@@ -85,3 +87,14 @@ module _ (entry : ℕ) (b list written r : List ℕ) (a : ℕ) (n : ℕ) where
   step-held s e out eo k w b′ eb r′ er =
       read-leaves _ (out .next) n b′ (bytesOf (masterFields (out .state))) r′ (stepRead s (lentWith list written (length r)) a r) k w eb er
       (ap (λ (o : Stepped). left (o .next) (bytesOf (masterFields (o .state))) (stepRead s (lentWith list written (length r)) a r)) eo ∙ ap (λ (f : MasterFound). heldLeft f b list written r a) e)
+
+-- ---- the call that C's numbers mean
+
+pub called : (unknown : Bool) (c k : Call) (b : List ℕ) (l : Lent) (r : List ℕ) (n : ℕ) (b′ r′ : List ℕ) → k ≡ c → Leaves (masterBegin unknown k b l r) n b′ r′ → Leaves (masterBegin unknown c b l r) n b′ r′
+called unknown c k b l r n b′ r′ e h = subst (λ (k : Call). Leaves (masterBegin unknown k b l r) n b′ r′) e h
+
+pub write-call : (chip address option : ℕ) (o : FrameOptions) (k : Call) → k ≡ callOf chip address (kind.Write o) → o ≡ frameOptionsOf option → k ≡ callOf chip address (kind.Write (frameOptionsOf option))
+write-call chip address option o k e q = e ∙ ap (λ (o : FrameOptions). callOf chip address (kind.Write o)) q
+
+pub read-call : (chip address option : ℕ) (o : FrameOptions) (k : Call) → k ≡ callOf chip address (kind.Read o) → o ≡ frameOptionsOf option → k ≡ callOf chip address (kind.Read (frameOptionsOf option))
+read-call chip address option o k e q = e ∙ ap (λ (o : FrameOptions). callOf chip address (kind.Read o)) q

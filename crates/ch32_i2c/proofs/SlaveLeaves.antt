@@ -17,11 +17,13 @@ use Rattle.block.specs.declared.fields.Fields.{Fields}
 use Rattle.block.specs.Bytes32.{blockSize, fieldsOf, bytesOf}
 use Rattle.ch32_i2c.specs.Left.{Left, left, refusedWith, Leaves}
 use Rattle.ch32_i2c.proofs.LeavesLaws.{left-leaves, read-leaves, refused-leaves, short, whole, then, else, found-whole}
+use Rattle.registers.specs.declared.chip.Chip.{Chip}
 use Rattle.slave.specs.declared.state.Kind.{Kind}
 use Rattle.slave.specs.declared.state.State.{State}
 use Rattle.slave.specs.declared.state.Stepped.{Stepped}
 use Rattle.slave.specs.declared.state.Begun.{Begun}
 use Rattle.slave.specs.declared.state.Begun.the-variants as begun
+use Rattle.slave.specs.Calls.{SlaveLent}
 use Rattle.slave.specs.Steps.{begin, step, stepRead}
 use Rattle.slave_driver.specs.Lent.{lentWith}
 use Rattle.images.specs.declared.slave_image.SlaveFound.{SlaveFound}
@@ -86,3 +88,8 @@ module _ (entry : ℕ) (b reply r : List ℕ) (a : ℕ) (n : ℕ) where
   step-held s e out eo k w b′ eb r′ er =
       read-leaves _ (out .next) n b′ (bytesOf (slaveFields (out .state))) r′ (stepRead s (lentWith reply (length r)) a r) k w eb er
       (ap (λ (o : Stepped). left (o .next) (bytesOf (slaveFields (o .state))) (stepRead s (lentWith reply (length r)) a r)) eo ∙ ap (λ (f : SlaveFound). heldLeft f b reply r a) e)
+
+-- ---- the chip that C's number means
+
+pub chipped : (chip : ℕ) (k : Chip) (kind : Kind) (l : SlaveLent) (g : Begun) → k ≡ chipOf chip → g ≡ begin k kind l → g ≡ begin (chipOf chip) kind l
+chipped chip k kind l g e q = q ∙ ap (λ (k : Chip). begin k kind l) e

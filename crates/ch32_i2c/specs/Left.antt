@@ -26,3 +26,9 @@ pub record Leaves (h : Left) (n : ℕ) (b r : List ℕ) : Type 0 where
   pub words : HoldsWords (h .next)
   pub block : b ≡ h .block
   pub read : r ≡ h .read
+
+-- the same where nothing is lent to read
+pub record LeavesBlock (h : Left) (n : ℕ) (b : List ℕ) : Type 0 where
+  pub number : n ≡ nextNumber (h .next)
+  pub words : HoldsWords (h .next)
+  pub block : b ≡ h .block

@@ -1,13 +1,12 @@
 // `init`.
 ghost use mathlib.Core.Path.{_≡_};
-ghost use mathlib.Core.List.{[]};
 ghost use mathlib.Core.Bool.{_||_};
 ghost use lib.Dec.{ltb};
 ghost use lib.ListN.{length};
 ghost use Rattle.access.specs.Numbers.{nextNumber, HoldsWords};
 ghost use Rattle.block.specs.Bytes32.{bytesOf, blockSize};
 ghost use Rattle.images.specs.InitImage.{initFields};
-ghost use Rattle.ch32_i2c.specs.Left.{Leaves};
+ghost use Rattle.ch32_i2c.specs.Left.{LeavesBlock};
 ghost use Rattle.ch32_i2c.specs.Init.{dutyOf, initBegin, initHeld, initStep};
 use crate::left;
 use access::Error;
@@ -58,7 +57,7 @@ pub extern "C" fn ch32_i2c_init_begin(
     frequency: u32,
     duty: u8,
 ) -> u64
-    ensures { λ r. ⌜ Leaves (initBegin (now (block .entry)) chip input frequency duty) r (now (block .exit)) [] ⌝ }
+    ensures { λ r. ⌜ LeavesBlock (initBegin (now (block .entry)) chip input frequency duty) r (now (block .exit)) ⌝ }
 {
     if block.len() != bytes32::BLOCK_SIZE {
         return left::refusal(Error::InvalidState);
@@ -84,7 +83,7 @@ fn held(block: &[u8]) -> InitFound
 
 #[no_mangle]
 pub extern "C" fn ch32_i2c_init_step(block: &mut [u8], answer: u16) -> u64
-    ensures { λ r. ⌜ Leaves (initStep (now (block .entry)) answer) r (now (block .exit)) [] ⌝ }
+    ensures { λ r. ⌜ LeavesBlock (initStep (now (block .entry)) answer) r (now (block .exit)) ⌝ }
 {
     match held(block) {
         InitFound::At(state) => leave(block, init::step(state, answer)),

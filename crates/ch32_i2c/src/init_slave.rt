@@ -1,11 +1,10 @@
 // `init_slave`.
 ghost use mathlib.Core.Path.{_≡_};
-ghost use mathlib.Core.List.{[]};
 ghost use lib.ListN.{length};
 ghost use Rattle.access.specs.Numbers.{nextNumber, HoldsWords};
 ghost use Rattle.block.specs.Bytes32.{bytesOf, blockSize};
 ghost use Rattle.images.specs.InitSlaveImage.{initSlaveFields};
-ghost use Rattle.ch32_i2c.specs.Left.{Leaves};
+ghost use Rattle.ch32_i2c.specs.Left.{LeavesBlock};
 ghost use Rattle.ch32_i2c.specs.InitSlave.{configOf, unknownFlags, initSlaveBegin, initSlaveHeld, initSlaveStep};
 use crate::left;
 use access::Error;
@@ -59,7 +58,7 @@ pub extern "C" fn ch32_i2c_init_slave_begin(
     general_call: u8,
     clock_stretching: u8,
 ) -> u64
-    ensures { λ r. ⌜ Leaves (initSlaveBegin (now (block .entry)) «ten_bit» address «has_second» second «general_call» «clock_stretching») r (now (block .exit)) [] ⌝ }
+    ensures { λ r. ⌜ LeavesBlock (initSlaveBegin (now (block .entry)) «ten_bit» address «has_second» second «general_call» «clock_stretching») r (now (block .exit)) ⌝ }
 {
     if block.len() != bytes32::BLOCK_SIZE {
         return left::refusal(Error::InvalidState);
@@ -93,7 +92,7 @@ fn held(block: &[u8]) -> InitSlaveFound
 
 #[no_mangle]
 pub extern "C" fn ch32_i2c_init_slave_step(block: &mut [u8], answer: u16) -> u64
-    ensures { λ r. ⌜ Leaves (initSlaveStep (now (block .entry)) answer) r (now (block .exit)) [] ⌝ }
+    ensures { λ r. ⌜ LeavesBlock (initSlaveStep (now (block .entry)) answer) r (now (block .exit)) ⌝ }
 {
     match held(block) {
         InitSlaveFound::At(state) => leave(block, init::step(state, answer)),

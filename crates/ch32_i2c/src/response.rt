@@ -1,11 +1,10 @@
 // Listening, receives and replies.
 ghost use mathlib.Core.Path.{_≡_};
-ghost use mathlib.Core.List.{[]};
 ghost use lib.ListN.{length};
 ghost use Rattle.access.specs.Numbers.{nextNumber, HoldsWords};
 ghost use Rattle.block.specs.Bytes32.{bytesOf, blockSize};
 ghost use Rattle.images.specs.SlaveImage.{slaveFields};
-ghost use Rattle.ch32_i2c.specs.Left.{Leaves};
+ghost use Rattle.ch32_i2c.specs.Left.{Leaves, LeavesBlock};
 ghost use Rattle.ch32_i2c.specs.Response.{slaveBegin, slaveHeld, slaveStep, listenBegin, listenStep, respondToWriteBegin, respondToWriteStep, respondToReadBegin, respondToReadStep};
 use crate::left;
 use access::Error;
@@ -74,7 +73,7 @@ fn step(entry: u8, block: &mut [u8], reply: &[u8], buffer: &mut [u8], answer: u1
 
 #[no_mangle]
 pub extern "C" fn ch32_i2c_listen_begin(block: &mut [u8], chip: u8) -> u64
-    ensures { λ r. ⌜ Leaves (listenBegin (now (block .entry)) chip) r (now (block .exit)) [] ⌝ }
+    ensures { λ r. ⌜ LeavesBlock (listenBegin (now (block .entry)) chip) r (now (block .exit)) ⌝ }
 {
     let none = [0u8; 0];
     let mut nowhere = [0u8; 0];
@@ -83,7 +82,7 @@ pub extern "C" fn ch32_i2c_listen_begin(block: &mut [u8], chip: u8) -> u64
 
 #[no_mangle]
 pub extern "C" fn ch32_i2c_listen_step(block: &mut [u8], answer: u16) -> u64
-    ensures { λ r. ⌜ Leaves (listenStep (now (block .entry)) answer) r (now (block .exit)) [] ⌝ }
+    ensures { λ r. ⌜ LeavesBlock (listenStep (now (block .entry)) answer) r (now (block .exit)) ⌝ }
 {
     let none = [0u8; 0];
     let mut nowhere = [0u8; 0];
@@ -116,7 +115,7 @@ pub extern "C" fn ch32_i2c_respond_to_write_step(
 
 #[no_mangle]
 pub extern "C" fn ch32_i2c_respond_to_read_begin(block: &mut [u8], chip: u8, reply: &[u8]) -> u64
-    ensures { λ r. ⌜ Leaves (respondToReadBegin (now (block .entry)) chip (now (reply .entry))) r (now (block .exit)) [] ⌝ }
+    ensures { λ r. ⌜ LeavesBlock (respondToReadBegin (now (block .entry)) chip (now (reply .entry))) r (now (block .exit)) ⌝ }
 {
     let mut nowhere = [0u8; 0];
     begin(Kind::RespondToRead, block, chip, reply, &mut nowhere)
@@ -124,7 +123,7 @@ pub extern "C" fn ch32_i2c_respond_to_read_begin(block: &mut [u8], chip: u8, rep
 
 #[no_mangle]
 pub extern "C" fn ch32_i2c_respond_to_read_step(block: &mut [u8], reply: &[u8], answer: u16) -> u64
-    ensures { λ r. ⌜ Leaves (respondToReadStep (now (block .entry)) (now (reply .entry)) answer) r (now (block .exit)) [] ⌝ }
+    ensures { λ r. ⌜ LeavesBlock (respondToReadStep (now (block .entry)) (now (reply .entry)) answer) r (now (block .exit)) ⌝ }
 {
     let mut nowhere = [0u8; 0];
     step(numbers::RESPOND_TO_READ, block, reply, &mut nowhere, answer)

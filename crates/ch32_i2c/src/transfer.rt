@@ -1,12 +1,11 @@
 // Transactions, write-reads and frames.
 ghost use mathlib.Core.Path.{_≡_};
-ghost use mathlib.Core.List.{[]};
 ghost use lib.ListN.{length};
 ghost use Rattle.access.specs.Numbers.{nextNumber, HoldsWords};
 ghost use Rattle.block.specs.Bytes32.{bytesOf, blockSize};
 ghost use Rattle.images.specs.MasterImage.{masterFields};
 ghost use Rattle.master.specs.Calls.{lentWith};
-ghost use Rattle.ch32_i2c.specs.Left.{Leaves};
+ghost use Rattle.ch32_i2c.specs.Left.{Leaves, LeavesBlock};
 ghost use Rattle.ch32_i2c.specs.Transfer.{callOf, masterLeft, masterBegin, masterHeld, masterStep, transactionBegin, transactionStep, writeReadBegin, writeReadStep, writeBegin, writeStep, readBegin, readStep};
 use crate::left;
 use access::Error;
@@ -176,7 +175,7 @@ pub extern "C" fn ch32_i2c_write_begin(
     option: u8,
     written: &[u8],
 ) -> u64
-    ensures { λ r. ⌜ Leaves (writeBegin (now (block .entry)) chip address option (now (written .entry))) r (now (block .exit)) [] ⌝ }
+    ensures { λ r. ⌜ LeavesBlock (writeBegin (now (block .entry)) chip address option (now (written .entry))) r (now (block .exit)) ⌝ }
 {
     let none = [0u8; 0];
     let mut nowhere = [0u8; 0];
@@ -196,7 +195,7 @@ pub extern "C" fn ch32_i2c_write_begin(
 
 #[no_mangle]
 pub extern "C" fn ch32_i2c_write_step(block: &mut [u8], written: &[u8], answer: u16) -> u64
-    ensures { λ r. ⌜ Leaves (writeStep (now (block .entry)) (now (written .entry)) answer) r (now (block .exit)) [] ⌝ }
+    ensures { λ r. ⌜ LeavesBlock (writeStep (now (block .entry)) (now (written .entry)) answer) r (now (block .exit)) ⌝ }
 {
     let none = [0u8; 0];
     let mut nowhere = [0u8; 0];

@@ -1,30 +1,16 @@
+-- `ch32_i2c::response::held` meets its contract.
+-- Assumes nothing.
+use Rattle.ch32_i2c.proofs.SlaveLeaves.{held-short, held-other, held-found}
 use borrow.Author.Needs.{needs}
 use Rattle.ch32_i2c.proofs.response.held.Statement.{statement}
 use Rattle.ch32_i2c.proofs.response.held.Tie as tie
-use Rattle.ch32_i2c.proofs.response.held.Reads as reads
-use Rattle.ch32_i2c.proofs.response.held.Lts as lts
-use Rattle.block.proofs.bytes32.fields.Reads as fields-reads
-use Rattle.images.proofs.slave_image.slave_in.Reads as slave-in-reads
-
--- src/response.rt:54:9
-returns : tie.Need-returns
-returns c = ?
-
--- src/response.rt:56:9
-fields-requires : tie.Need-fields-requires
-fields-requires c κs = search needs
-
--- src/response.rt:58:9
-returns-2 : tie.Need-returns-2
-returns-2 c = ?
-
--- src/response.rt:60:5
-slave-in-requires : tie.Need-slave-in-requires
-slave-in-requires c κs = search needs
-
--- src/response.rt:50:1
-returns-3 : tie.Need-returns-3
-returns-3 c = ?
 
 pub held-spec : {M : Type 1} → statement M
-held-spec = tie.close (tie.spec returns fields-requires returns-2 slave-in-requires returns-3)
+held-spec =
+    tie.close
+    (tie.spec
+    (λ c. held-short _ _ (c .if1 .taken))
+    (λ c κs. search needs)
+    (λ c. held-other _ _ (c .before .before .before .if1 .left) _ (c .before .before .fields .ensures) (c .if2 .taken))
+    (λ c κs. search needs)
+    (λ c. held-found _ _ (c .before .before .before .before .if1 .left) _ (c .before .before .before .fields .ensures) (c .before .if2 .left) _ (c .slave-in .ensures)))

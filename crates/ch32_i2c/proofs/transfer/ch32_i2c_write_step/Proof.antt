@@ -1,31 +1,16 @@
+-- `ch32_i2c::transfer::ch32_i2c_write_step` meets its contract.
+-- Assumes nothing.
+use Rattle.ch32_i2c.proofs.LeavesLaws.{block-leaves}
 use borrow.Author.Needs.{needs}
 use Rattle.ch32_i2c.proofs.transfer.ch32_i2c_write_step.Statement.{statement}
 use Rattle.ch32_i2c.proofs.transfer.ch32_i2c_write_step.Tie as tie
-use Rattle.ch32_i2c.proofs.transfer.ch32_i2c_write_step.Reads as reads
-use Rattle.ch32_i2c.proofs.transfer.ch32_i2c_write_step.Lts as lts
-use Rattle.ch32_i2c.proofs.transfer.step.Reads as step-reads
-
--- src/transfer.rt:203:33
-slice-aggregate-step : tie.Need-slice-aggregate-step
-slice-aggregate-step c = search needs
-
--- src/transfer.rt:203:49
-slice-aggregate-step-2 : tie.Need-slice-aggregate-step-2
-slice-aggregate-step-2 c = search needs
-
--- src/transfer.rt:203:5
-step-requires : tie.Need-step-requires
-step-requires c κs = search needs
-
--- src/transfer.rt:197:1
-same-length : tie.Need-same-length
-same-length c = search needs
-
--- src/transfer.rt:197:1
-returns : tie.Need-returns
-returns c = ?
 
 pub ch32-i2c-write-step-spec : {M : Type 1} → statement M
 ch32-i2c-write-step-spec =
     tie.close
-    (tie.spec slice-aggregate-step slice-aggregate-step-2 step-requires same-length returns)
+    (tie.spec
+    (λ c. search needs)
+    (λ c. search needs)
+    (λ c κs. search needs)
+    (λ c. search needs)
+    (λ c. block-leaves (c .before .before .before .step .ensures)))
