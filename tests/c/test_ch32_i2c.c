@@ -40,6 +40,7 @@ static const struct {
     {"steps after the end", test_after_the_end},
     {"calls that end at once", test_ends_at_once},
     {"random calls", test_random_calls},
+    {"ch32_i2c_blocking.h", test_blocking},
 };
 
 int main(void)
