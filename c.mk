@@ -4,7 +4,9 @@ CH32_ARCHIVE = target/staticlib/libch32_i2c.a
 CH32_LIB ?= $(CH32_ARCHIVE)
 C_LAYOUT ?= layout.h
 C_OUT = target/c
-C_FLAGS = -O2 -g -Wall -Wextra -Werror -Iinclude
+C_WARN = -pedantic -Wall -Wextra -Werror -Iinclude
+C_STRICT = -std=c99 $(C_WARN)
+C_FLAGS = $(C_STRICT) -O2 -g
 
 .PHONY: lib ctest headers demo demo-check
 
@@ -14,19 +16,24 @@ $(CH32_ARCHIVE): $(shell find crates crates.txt -type f)
 	rt staticlib ch32_i2c
 	@touch $@
 
-# Both headers by themselves, as strict C99 and as C++.
+# Both headers by themselves, as strict C99 and, where there is a compiler for it, as C++; the examples of docs/USING.md.
 headers:
 	@mkdir -p $(C_OUT)
 	@for h in ch32_i2c.h ch32_i2c_blocking.h; do \
-	  echo "#include \"$$h\"" | $(CC) -x c -std=c99 -pedantic -Wall -Wextra -Werror -Wconversion -Iinclude -fsyntax-only - && \
-	  echo "#include \"$$h\"" | $(CC) -x c++ -std=c++11 -pedantic -Wall -Wextra -Werror -Iinclude -fsyntax-only - || exit 1; \
+	  echo "#include \"$$h\"" | $(CC) -x c $(C_STRICT) -Wconversion -fsyntax-only - || exit 1; \
+	  if $(CC) -x c++ -fsyntax-only /dev/null 2>/dev/null; then \
+	    echo "#include \"$$h\"" | $(CC) -x c++ -std=c++11 $(C_WARN) -fsyntax-only - || exit 1; \
+	  fi; \
 	done
+	@rm -f $(C_OUT)/using*.c
+	@awk -v out=$(C_OUT)/using '/^```c$$/ {n++; file = out n ".c"; next} /^```/ {file = ""} file {print > file}' docs/USING.md
+	@for f in $(C_OUT)/using*.c; do $(CC) $(C_STRICT) -fsyntax-only $$f || exit 1; done
 
 TEST_SOURCES = $(wildcard tests/c/*.c)
 
 $(C_OUT)/test_ch32_i2c: $(TEST_SOURCES) $(wildcard tests/c/*.h) $(wildcard include/*.h) $(CH32_LIB)
 	@mkdir -p $(C_OUT)
-	$(CC) -std=c99 -pedantic $(C_FLAGS) -DLAYOUT='"$(C_LAYOUT)"' $(TEST_SOURCES) $(CH32_LIB) -o $@
+	$(CC) $(C_FLAGS) -DLAYOUT='"$(C_LAYOUT)"' $(TEST_SOURCES) $(CH32_LIB) -o $@
 
 ctest: headers $(C_OUT)/test_ch32_i2c
 	$(C_OUT)/test_ch32_i2c
@@ -35,7 +42,7 @@ DEMO_SOURCES = $(wildcard demo/*.c)
 
 $(C_OUT)/demo: $(DEMO_SOURCES) demo/sim.h $(wildcard include/*.h) $(CH32_LIB)
 	@mkdir -p $(C_OUT)
-	$(CC) -std=c99 -pedantic $(C_FLAGS) $(DEMO_SOURCES) $(CH32_LIB) -o $@
+	$(CC) $(C_FLAGS) $(DEMO_SOURCES) $(CH32_LIB) -o $@
 
 # Prints what happens on the wire, and writes it as a waveform.
 demo: $(C_OUT)/demo
