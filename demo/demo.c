@@ -187,15 +187,31 @@ static void missing(void)
     result(ch32_i2c_read(&port, 0x33, &byte, 1), CH32_I2C_NACK);
 }
 
-/* The sensor holds SCL low for 3 ms, longer than a call may take. The call is late, and asks STOP before it ends. The byte under way and
- * STOP come out when the sensor lets go, and the next call waits for that. */
-static void late(void)
+static void hold_scl(uint64_t time, const char *what)
 {
     static const uint8_t limit[3] = {3, 0x50, 0x00};
-    sensor.hold_next = 3000000;
-    call("write a limit to the sensor, which holds SCL low for 3 ms; a call may take 2 ms");
+    sensor.hold_next = time;
+    call(what);
     result(ch32_i2c_write(&port, SENSOR, limit, sizeof limit), CH32_I2C_TIMEOUT);
+}
+
+/* The sensor holds SCL low for longer than a call may take. The call is late, and asks STOP before it ends. The byte under way and STOP come
+ * out when the sensor lets go, and the next call waits for that. */
+static void late(void)
+{
+    hold_scl(3000000, "write a limit to the sensor, which holds SCL low for 3 ms; a call may take 2 ms");
     temperature("write-read from the sensor: first waits until that STOP is out");
+}
+
+/* For so long that the next call is late too. It finds STOP still asked, and resets the peripheral with its clock settings kept. */
+static void late_twice(void)
+{
+    static const uint8_t pointer[1] = {0};
+    uint8_t bytes[2];
+    hold_scl(5000000, "the same, but SCL is held for 5 ms");
+    call("write-read from the sensor: STOP is still not out, the peripheral is reset");
+    result(ch32_i2c_write_read(&port, SENSOR, pointer, 1, bytes, 2), CH32_I2C_TIMEOUT);
+    temperature("again: START comes when SCL is free");
 }
 
 static void fast(void)
@@ -234,6 +250,7 @@ int main(int count, char **arguments)
     two_read_runs();
     missing();
     late();
+    late_twice();
     fast();
     refused();
     sim_wait(1000000);

@@ -216,6 +216,8 @@ static void run(void)
             uint64_t held = selected && selected->holds_scl_until > t ? selected->holds_scl_until : t;
             if (held > now)
                 return;
+            if (piece == FREE)
+                lines(held, 1, 1);
             next_piece(held);
             if (piece == was)
                 return;
@@ -243,7 +245,7 @@ static void reset(int all)
     reg[CH32_I2C_STAR1] = reg[CH32_I2C_STAR2] = 0;
     piece = FREE;
     sending = receiving = data_full = shift_full = 0;
-    lines(now, 1, 1);
+    lines(now, scl, 1); /* SCL rises when no device holds it */
 }
 
 static uint16_t read_data(void)

@@ -215,9 +215,9 @@ static void refused_or_a_state(unsigned byte, unsigned value)
     }
     for (i = 0; i < 8; i++) {
         check(well_formed(next), "%s: byte %u as %#x: got %#llx", entry_names[c.entry], byte, value, (unsigned long long)next);
-        check(tried.block[0] == c.block[0], "%s: byte %u as %#x: another tag", entry_names[c.entry], byte, value);
         if (ch32_i2c_kind_of(next) == CH32_I2C_KIND_END)
             return;
+        check(tried.block[0] == c.block[0], "%s: byte %u as %#x: another tag", entry_names[c.entry], byte, value);
         next = step(&tried, some_answer(&tried, next));
     }
     memcpy(before.block, tried.block, CH32_I2C_BLOCK_SIZE);
@@ -262,9 +262,9 @@ static void visit_layout(void)
         if (!(layout[c.entry].unused_bytes >> byte & 1))
             continue;
         check(c.block[byte] == 0, "%s: unused byte %u is %#x", entry_names[c.entry], byte, c.block[byte]);
-        for (value = 1; value < 256; value++) {
+        for (value = 0; value < 8; value++) {
             keep(&tried, &c);
-            tried.block[byte] = (uint8_t)value;
+            tried.block[byte] = (uint8_t)(1u << value);
             refused_step("unused byte", byte);
         }
     }
