@@ -48,8 +48,9 @@ $(C_OUT)/demo: $(DEMO_SOURCES) demo/sim.h $(wildcard include/*.h) $(CH32_LIB)
 demo: $(C_OUT)/demo
 	@$(C_OUT)/demo $(C_OUT)/demo.vcd
 
-# The same, and reads the waveform back.
+# The same, held to what it has to print: every byte on the wire, every count of accesses. Then the waveform is read back.
 demo-check: $(C_OUT)/demo
 	@$(C_OUT)/demo $(C_OUT)/demo.vcd > $(C_OUT)/demo.txt || { cat $(C_OUT)/demo.txt; exit 1; }
+	@diff demo/expected.txt $(C_OUT)/demo.txt
 	@tail -n 1 $(C_OUT)/demo.txt
 	@python3 demo/check_vcd.py $(C_OUT)/demo.vcd $(C_OUT)/demo.txt
