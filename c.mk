@@ -27,7 +27,7 @@ headers:
 	done
 	@rm -f $(C_OUT)/using*.c
 	@awk -v out=$(C_OUT)/using '/^```c$$/ {n++; file = out n ".c"; next} /^```/ {file = ""} file {print > file}' docs/USING.md
-	@for f in $(C_OUT)/using*.c; do $(CC) $(C_STRICT) -fsyntax-only $$f || exit 1; done
+	@for f in $(C_OUT)/using*.c; do $(CC) $(C_FLAGS) -Wconversion -c $$f -o $(C_OUT)/using.o || exit 1; done
 
 TEST_SOURCES = $(wildcard tests/c/*.c)
 

@@ -68,7 +68,7 @@ enum ch32_i2c_register {
     CH32_I2C_RTR = 8
 };
 
-/* How a call ends. 1 to 6 are met on the bus, 6 and 8 to 16 before any access. (7 is never given.) */
+/* How a call ends. 1 to 6 are met on the bus. 6 and 8 to 16 refuse a call before any access, and 15 a step. (7 is never given.) */
 enum ch32_i2c_end {
     CH32_I2C_DONE = 0,
     CH32_I2C_BUS = 1,                  /* misplaced START or STOP on the bus; chips with ch32v4 alone */

@@ -254,7 +254,7 @@ static inline unsigned ch32_i2c_listen(const struct ch32_i2c_port *port, struct 
     struct ch32_i2c_lent l = ch32_i2c_lend(port, NULL, 0, NULL, 0, NULL, 0);
     uint64_t next = ch32_i2c_listen_begin(l.block, sizeof l.block, port->chip);
     next = ch32_i2c_carry_out(port, next, ch32_i2c_step_listen, &l);
-    if (ch32_i2c_is_done(next)) {
+    if (ch32_i2c_end_of(next) == CH32_I2C_DONE) {
         command->command = ch32_i2c_command_of(next);
         command->address = ch32_i2c_command_address_of(next);
         command->ten_bit = ch32_i2c_command_ten_bit_of(next);
@@ -268,7 +268,7 @@ static inline unsigned ch32_i2c_respond_to_write(const struct ch32_i2c_port *por
     struct ch32_i2c_lent l = ch32_i2c_lend(port, NULL, 0, NULL, 0, buffer, buffer_length);
     uint64_t next = ch32_i2c_respond_to_write_begin(l.block, sizeof l.block, port->chip, buffer, buffer_length);
     next = ch32_i2c_carry_out(port, next, ch32_i2c_step_respond_to_write, &l);
-    if (ch32_i2c_is_done(next))
+    if (ch32_i2c_end_of(next) == CH32_I2C_DONE)
         *stored = ch32_i2c_stored_of(next);
     return ch32_i2c_end_of(next);
 }
@@ -280,7 +280,7 @@ static inline unsigned ch32_i2c_respond_to_read(const struct ch32_i2c_port *port
     struct ch32_i2c_lent l = ch32_i2c_lend(port, NULL, 0, data, data_length, NULL, 0);
     uint64_t next = ch32_i2c_respond_to_read_begin(l.block, sizeof l.block, port->chip, data, data_length);
     next = ch32_i2c_carry_out(port, next, ch32_i2c_step_respond_to_read, &l);
-    if (ch32_i2c_is_done(next))
+    if (ch32_i2c_end_of(next) == CH32_I2C_DONE)
         *left_over = ch32_i2c_left_over_of(next);
     return ch32_i2c_end_of(next);
 }
