@@ -60,6 +60,7 @@ void follow(struct call *c, const char *name, const char *lines);
 void test_header(void);
 void test_sequences(void);
 void test_settings(void);
+void test_errors(void);
 void test_refusals(void);
 void test_refusal_order(void);
 void test_limits(void);

@@ -299,8 +299,144 @@ static void slaves(void)
     follow(&c, "respond_to_read, TIMEOUT", "r,STAR1,4000\nw,STAR1,bfff\nr,CTLR2,0008\nw,CTLR2,0008\nr,STAR2,0000\nend,4");
 }
 
+/* Bits that do not matter are all set or all clear, so that a wait or a change that looks at others, or alters others, shows. */
+#define NOISY_ADDRESS(ack, word)                                                                                                          \
+    "r,CTLR1,fdff\nr,CTLR1,feff\nr,STAR1,fffe\nr,CTLR1,0000\nw,CTLR1," ack "\nr,STAR1,a0fe\nc,clock,0000\nr,STAR1,0001\n"               \
+    "r,CTLR1,feff\nr,STAR2,0001\nw,DATAR," word "\nr,STAR1,a0fd\nc,clock,0000\nr,STAR1,0002\n"
+#define NOISY_BYTE(word) "r,STAR1,a07f\nc,clock,0000\nr,STAR1,0080\nw,DATAR," word "\nr,STAR1,a0fb\nc,clock,0000\nr,STAR1,0004\n"
+#define NOISY_BTF "r,STAR1,a0fb\nc,clock,0000\nr,STAR1,0004\n"
+#define NOISY_RECEIVE(word) "r,STAR1,a0ff\nr,STAR1,ffbf\nc,clock,0000\nr,STAR1,0000\nr,STAR1,0040\nr,DATAR," word "\n"
+
+static void noisy_call(enum entry entry, const char *name, unsigned option, size_t length, const char *lines)
+{
+    plain_call(&c, entry);
+    c.option = (uint8_t)option;
+    c.written_length = c.read_length = length;
+    follow(&c, name, lines);
+}
+
+static void noise(void)
+{
+    noisy_call(WRITE, "write with noise", 0, 1,
+               NOISY_ADDRESS("0100", "0042") "r,STAR2,ffff\n" NOISY_BYTE("0031") "r,CTLR1,0000\nw,CTLR1,0200\nr,CTLR1,fdff\nend,0");
+    noisy_call(READ, "read 1 with noise", 0, 1,
+               "r,CTLR1,ffff\nw,CTLR1,f7ff\n" NOISY_ADDRESS("0500", "0043") "r,CTLR1,ffff\nw,CTLR1,fbff\nr,STAR2,0000\n"
+               "r,CTLR1,0000\nw,CTLR1,0200\n" NOISY_RECEIVE("ffee") "r,CTLR1,fdff\nr,CTLR1,ffff\nw,CTLR1,f7ff\nend,0");
+    noisy_call(READ, "read 1 with noise, first frame", 1, 1,
+               "r,CTLR1,0000\nw,CTLR1,0000\n" NOISY_ADDRESS("0500", "0043") "r,CTLR1,ffff\nw,CTLR1,fbff\nr,STAR2,0000\n"
+               "r,CTLR1,0000\nw,CTLR1,0100\n" NOISY_RECEIVE("ffee") "end,0");
+    noisy_call(READ, "read 2 with noise", 0, 2,
+               "r,CTLR1,0000\nw,CTLR1,0800\n" NOISY_ADDRESS("0500", "0043") "r,CTLR1,0000\nw,CTLR1,0000\nr,STAR2,ffff\n" NOISY_BTF
+               "r,CTLR1,0000\nw,CTLR1,0200\nr,DATAR,ff01\nr,DATAR,ff02\nr,CTLR1,0000\nr,CTLR1,0000\nw,CTLR1,0000\nend,0");
+    noisy_call(READ, "read 4 with noise, last frame without STOP", 5, 4,
+               "r,CTLR1,0000\nw,CTLR1,0000\n" NOISY_RECEIVE("0001") NOISY_BTF "r,CTLR1,ffff\nw,CTLR1,fbff\nr,DATAR,0002\n" NOISY_BTF
+               "r,CTLR1,0000\nw,CTLR1,0100\nr,DATAR,0003\nr,DATAR,0004\nend,0");
+    noisy_call(WRITE, "abort, not master", 3, 1, "r,STAR1,0400\nw,STAR1,fbff\nr,CTLR2,ffff\nw,CTLR2,e0ff\nr,CTLR1,fcff\nr,STAR2,fffe\nend,3");
+    noisy_call(WRITE, "abort, master", 3, 1,
+               "r,STAR1,0400\nw,STAR1,fbff\nr,CTLR2,0000\nw,CTLR2,0000\nr,CTLR1,fcff\nr,STAR2,0001\nr,CTLR1,0000\nw,CTLR1,0200\nend,3");
+    noisy_call(WRITE, "abort, STOP asked", 3, 1,
+               "r,STAR1,0400\nw,STAR1,fbff\nr,CTLR2,0000\nw,CTLR2,0000\nr,CTLR1,0200\nr,CTLR2,ffc0\nr,CKCFGR,ffff\nr,RTR,ffff\n"
+               "w,CTLR1,8000\nw,CTLR1,0000\nw,CTLR2,0000\nw,CKCFGR,ffff\nw,RTR,ffff\nw,CTLR1,0001\nend,3");
+    noisy_call(LISTEN, "listen with noise", 0, 0,
+               "r,STAR1,ffff\nr,CTLR1,0000\nw,CTLR1,0000\nr,STAR1,a0ff\nr,CTLR2,ffff\nw,CTLR2,fbff\nr,CTLR1,0000\nw,CTLR1,0400\n"
+               "r,STAR1,a0fd\nc,clock,0000\nr,STAR1,0002\nr,STAR2,ff6b\nr,OADDR1,7fff\nend,0,207f");
+    noisy_call(LISTEN, "listen with noise, second address", 0, 0, FLUSH "r,STAR1,0002\nr,STAR2,0080\nr,OADDR2,ffff\nend,0,207f");
+    noisy_call(LISTEN, "listen with noise, ten bits", 0, 0, FLUSH "r,STAR1,0002\nr,STAR2,0004\nr,OADDR1,ffff\nend,0,17ff");
+    noisy_call(LISTEN, "listen with noise, general call", 0, 0, FLUSH "r,STAR1,0002\nr,STAR2,0010\nend,0,0000");
+    noisy_call(LISTEN, "slave's abort, not busy", 0, 0,
+               FLUSH "r,STAR1,a0fd\nc,clock,0001\nr,CTLR2,ffff\nw,CTLR2,f0ff\nr,STAR2,fffd\nend,4");
+    noisy_call(LISTEN, "slave's abort, master", 0, 0,
+               FLUSH "r,STAR1,a0fd\nc,clock,0001\nr,CTLR2,0000\nw,CTLR2,0000\nr,STAR2,ffff\nend,4");
+    noisy_call(LISTEN, "slave's abort, busy", 0, 0,
+               FLUSH "r,STAR1,a0fd\nc,clock,0001\nr,CTLR2,0000\nw,CTLR2,0000\nr,STAR2,fffe\nr,CTLR1,0000\nw,CTLR1,0200\nend,4");
+    noisy_call(RESPOND_TO_WRITE, "respond_to_write with noise", 0, 2,
+               "r,STAR1,a0ad\nc,clock,0000\nr,STAR1,ffff\nr,DATAR,ff01\nr,STAR1,ffbf\nr,STAR1,ffff\nr,CTLR1,ffff\nw,CTLR1,ffff\nend,0,0001");
+    noisy_call(RESPOND_TO_WRITE, "respond_to_write with noise, ADDR", 0, 2, "r,STAR1,ffaf\nend,0,0000");
+    noisy_call(RESPOND_TO_READ, "respond_to_read with noise", 0, 2,
+               "r,STAR1,a06d\nc,clock,0000\nr,STAR1,fbed\nw,DATAR,0031\nr,STAR1,fb7f\nr,STAR1,0000\nr,CTLR1,0000\nw,CTLR1,0000\nend,0,0002");
+    noisy_call(RESPOND_TO_READ, "respond_to_read with noise, AF", 0, 2, "r,STAR1,0080\nw,DATAR,0031\nr,STAR1,ff7f\nr,STAR1,0000\nw,STAR1,0000\nend,0,0001");
+    noisy_call(RESPOND_TO_READ, "respond_to_read with noise, ADDR", 0, 2, "r,STAR1,0080\nw,DATAR,0031\nr,STAR1,fb6f\nend,0,0002");
+    plain_call(&c, INIT_SLAVE);
+    c.general_call = 1;
+    c.clock_stretching = 0;
+    follow(&c, "init_slave with noise", "r,CTLR1,ffff\nw,CTLR1,fffe\nr,CTLR2,ffff\nw,CTLR2,fbff\nw,OADDR1,4084\nw,OADDR2,0000\n"
+                                        "r,CTLR1,ffff\nw,CTLR1,ffff\nend,0");
+    plain_call(&c, INIT_SLAVE);
+    follow(&c, "init_slave with noise, bits off", "r,CTLR1,0000\nw,CTLR1,0000\nr,CTLR2,0000\nw,CTLR2,0000\nw,OADDR1,4084\nw,OADDR2,0000\n"
+                                                  "r,CTLR1,ffff\nw,CTLR1,ff3f\nend,0");
+}
+
+/* ---- errors: every set of flags on every chip ---- */
+
+/* Document 01: the first of these that is set. 0: none that decides on this chip. */
+static unsigned error_of(unsigned flags, unsigned chip, int slave)
+{
+    if (flags & 0x0200)
+        return CH32_I2C_ARBITRATION;
+    if (flags & 0x4000 && chip & CH32_I2C_CHIP_V3)
+        return CH32_I2C_TIMEOUT;
+    if (flags & 0x1000)
+        return CH32_I2C_CRC;
+    if (flags & 0x0800)
+        return CH32_I2C_OVERRUN;
+    if (flags & 0x0400 && !slave)
+        return CH32_I2C_NACK;
+    if (flags & 0x0100 && chip & CH32_I2C_CHIP_CH32V4)
+        return CH32_I2C_BUS;
+    return 0;
+}
+
+/* The call waits at STAR1; it is answered with these flags. Then all is answered with 0, in which case no abort does more than it must. */
+static void errors_at(uint64_t next, unsigned flags, int slave)
+{
+    unsigned steps = 0, end = error_of(flags, c.chip, slave);
+    check(next == (CH32_I2C_KIND_READ | CH32_I2C_STAR1 << 8), "%s: waits at STAR1", entry_names[c.entry]);
+    next = step(&c, (uint16_t)flags);
+    if (flags & 0x5f00) {
+        check(next == (CH32_I2C_KIND_WRITE | CH32_I2C_STAR1 << 8 | (uint64_t)(0xffff & ~(flags & 0x5f00)) << 16),
+              "%s: flags %#x: got %#llx", entry_names[c.entry], flags, (unsigned long long)next);
+        next = step(&c, 0);
+    }
+    if (end == 0) {
+        check(next == CH32_I2C_KIND_CLOCK, "%s: flags %#x: got %#llx", entry_names[c.entry], flags, (unsigned long long)next);
+        return;
+    }
+    while (ch32_i2c_kind_of(next) != CH32_I2C_KIND_END && steps++ < 10)
+        next = step(&c, 0);
+    check(next == ending(end), "%s: flags %#x, chip %u: got %#llx", entry_names[c.entry], flags, c.chip, (unsigned long long)next);
+}
+
+void test_errors(void)
+{
+    unsigned chip, set, i;
+    for (chip = 0; chip < 4; chip++)
+        for (set = 0; set < 128; set++) {
+            unsigned flags = (set & 0x3f) << 8 | (set & 0x40) << 8; /* bits 8 to 13 and 14; 13 is no error */
+            uint64_t next;
+            plain_call(&c, WRITE);
+            c.chip = (uint8_t)chip;
+            c.option = CH32_I2C_NEXT_FRAME;
+            errors_at(begin(&c), flags, 0);
+            plain_call(&c, LISTEN);
+            c.chip = (uint8_t)chip;
+            next = begin(&c);
+            for (i = 0; i < 8; i++)
+                next = step(&c, 0);
+            errors_at(next, flags, 1);
+            plain_call(&c, RESPOND_TO_WRITE);
+            c.chip = (uint8_t)chip;
+            errors_at(begin(&c), flags, 1);
+            if (flags & 0x0400)
+                continue; /* AF ends a reply */
+            plain_call(&c, RESPOND_TO_READ);
+            c.chip = (uint8_t)chip;
+            errors_at(begin(&c), flags, 1);
+        }
+}
+
 void test_sequences(void)
 {
+    noise();
     bench_example();
     init();
     writes();

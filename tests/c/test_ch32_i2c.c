@@ -27,6 +27,7 @@ static const struct {
 } groups[] = {
     {"the header's numbers, and taking a number apart", test_header},
     {"whole calls, number by number", test_sequences},
+    {"error flags, every set on every chip", test_errors},
     {"bus settings", test_settings},
     {"every refusal, every byte unchanged", test_refusals},
     {"the order of refusals, all combinations", test_refusal_order},
