@@ -255,7 +255,7 @@ static void slaves(void)
     follow(&c, "listen, general call", FLUSH "r,STAR1,0002\nr,STAR2,0094\nend,0,0000");
     plain_call(&c, LISTEN);
     follow(&c, "listen, stale flags, late",
-           "r,STAR1,0010\nr,CTLR1,0401\nw,CTLR1,0401\nr,STAR1,1f00\nw,STAR1,e0ff\nr,CTLR2,0408\nw,CTLR2,0008\nr,CTLR1,0001\n"
+           "r,STAR1,0010\nr,CTLR1,0401\nw,CTLR1,0401\nr,STAR1,bfff\nw,STAR1,e0ff\nr,CTLR2,0408\nw,CTLR2,0008\nr,CTLR1,0001\n"
            "w,CTLR1,0401\nr,STAR1,0400\nw,STAR1,fbff\nc,clock,0001\n" SLAVE_ABORT "end,4");
     plain_call(&c, LISTEN);
     follow(&c, "listen, OVR", FLUSH "r,STAR1,0c00\nw,STAR1,f3ff\nr,CTLR2,0008\nw,CTLR2,0008\nr,STAR2,0003\nend,6");
@@ -386,12 +386,12 @@ static unsigned error_of(unsigned flags, unsigned chip, int slave)
     return 0;
 }
 
-/* The call waits at STAR1; it is answered with these flags. Then all is answered with 0, in which case no abort does more than it must. */
-static void errors_at(uint64_t next, unsigned flags, int slave)
+/* The call waits at STAR1; it is answered with these flags, and with others that do not matter. Then all is answered with 0, in which case no abort does more than it must. */
+static void errors_at(uint64_t next, unsigned flags, unsigned others, int slave)
 {
     unsigned steps = 0, end = error_of(flags, c.chip, slave);
     check(next == (CH32_I2C_KIND_READ | CH32_I2C_STAR1 << 8), "%s: waits at STAR1", entry_names[c.entry]);
-    next = step(&c, (uint16_t)flags);
+    next = step(&c, (uint16_t)(flags | others));
     if (flags & 0x5f00) {
         check(next == (CH32_I2C_KIND_WRITE | CH32_I2C_STAR1 << 8 | (uint64_t)(0xffff & ~(flags & 0x5f00)) << 16),
               "%s: flags %#x: got %#llx", entry_names[c.entry], flags, (unsigned long long)next);
@@ -416,21 +416,21 @@ void test_errors(void)
             plain_call(&c, WRITE);
             c.chip = (uint8_t)chip;
             c.option = CH32_I2C_NEXT_FRAME;
-            errors_at(begin(&c), flags, 0);
+            errors_at(begin(&c), flags, 0x807f, 0);
             plain_call(&c, LISTEN);
             c.chip = (uint8_t)chip;
             next = begin(&c);
             for (i = 0; i < 8; i++)
                 next = step(&c, 0);
-            errors_at(next, flags, 1);
+            errors_at(next, flags, 0x80fd, 1);
             plain_call(&c, RESPOND_TO_WRITE);
             c.chip = (uint8_t)chip;
-            errors_at(begin(&c), flags, 1);
+            errors_at(begin(&c), flags, 0x80ad, 1);
             if (flags & 0x0400)
                 continue; /* AF ends a reply */
             plain_call(&c, RESPOND_TO_READ);
             c.chip = (uint8_t)chip;
-            errors_at(begin(&c), flags, 1);
+            errors_at(begin(&c), flags, 0x806d, 1);
         }
 }
 
