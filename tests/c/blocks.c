@@ -377,3 +377,48 @@ void test_random_calls(void)
         }
     }
 }
+
+/* ---- the clock: a call that is told it is late ends with 4, at whatever question, and at no other time ---- */
+
+static uint16_t calm_answer(uint64_t next)
+{
+    switch (ch32_i2c_register_of(next)) {
+    case CH32_I2C_STAR1:
+        return (uint16_t)(c.entry < INIT_SLAVE ? (chance(2) ? 0xc7 : 0) : (chance(2) ? 0xc0 : 0));
+    case CH32_I2C_STAR2:
+        return 3;
+    case CH32_I2C_CTLR1:
+        return (uint16_t)(chance(4) ? 0x0401 : 0x0601);
+    default:
+        return (uint16_t)chance(0x10000);
+    }
+}
+
+void test_late(void)
+{
+    int round;
+    unsigned met = 0;
+    for (round = 0; round < 6000; round++) {
+        uint64_t next;
+        unsigned skipped = chance(10), steps;
+        int late = 0;
+        some_call(&c, (enum entry)(round % ENTRIES));
+        next = begin(&c);
+        for (steps = 0; steps < 300 && ch32_i2c_kind_of(next) != CH32_I2C_KIND_END; steps++) {
+            int question = ch32_i2c_kind_of(next) == CH32_I2C_KIND_CLOCK;
+            if (late)
+                next = step(&c, 0);
+            else if (question && skipped-- == 0) {
+                late = 1;
+                met |= 1u << c.entry;
+                next = step(&c, (uint16_t)(chance(2) ? 1u << chance(16) : 1 + chance(65535)));
+            } else
+                next = step(&c, question ? 0 : calm_answer(next));
+        }
+        if (late)
+            check(next == ending(4), "%s: told that it is late, got %#llx", entry_names[c.entry], (unsigned long long)next);
+        else if (ch32_i2c_kind_of(next) == CH32_I2C_KIND_END)
+            check(ch32_i2c_is_done(next), "%s: never late, got %#llx", entry_names[c.entry], (unsigned long long)next);
+    }
+    check(met == (1u << ENTRIES) - 1 - (1u << INIT) - (1u << INIT_SLAVE), "entries that ask the clock: %#x", met);
+}

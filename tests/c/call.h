@@ -73,6 +73,7 @@ void test_layout(void);
 void test_after_the_end(void);
 void test_ends_at_once(void);
 void test_random_calls(void);
+void test_late(void);
 void test_blocking(void);
 
 #endif

@@ -41,6 +41,7 @@ static const struct {
     {"steps after the end", test_after_the_end},
     {"calls that end at once", test_ends_at_once},
     {"random calls", test_random_calls},
+    {"a late clock at any question", test_late},
     {"ch32_i2c_blocking.h", test_blocking},
 };
 
