@@ -1,0 +1,260 @@
+/* What the driver does, seen on the wire: a simulated peripheral with an EEPROM at 0x50 and a temperature sensor at 0x48 behind it.
+ * Usage: demo FILE.vcd [-v]. With -v each access is printed too. */
+#include "ch32_i2c_blocking.h"
+#include "sim.h"
+
+#include <stdio.h>
+#include <string.h>
+
+#define EEPROM 0x50
+#define SENSOR 0x48
+#define TIMEOUT 2000000u /* 2 ms for each call */
+
+static struct eeprom eeprom;
+static struct sensor sensor;
+static int verbose, wrong;
+static unsigned long accesses;
+
+/* ---- the port ---- */
+
+static const char *const names[] = {"CTLR1", "CTLR2", "OADDR1", "OADDR2", "DATAR", "STAR1", "STAR2", "CKCFGR", "RTR"};
+
+static uint16_t read_register(void *registers, unsigned number)
+{
+    uint16_t value = sim_read(registers, number);
+    accesses++;
+    if (verbose)
+        printf("     r,%s,%04x\n", names[number], value);
+    return value;
+}
+
+static void write_register(void *registers, unsigned number, uint16_t value)
+{
+    accesses++;
+    if (verbose)
+        printf("     w,%s,%04x\n", names[number], value);
+    sim_write(registers, number, value);
+}
+
+static uint64_t deadline;
+
+static void start_clock(void *clock)
+{
+    (void)clock;
+    deadline = sim_now() + TIMEOUT;
+}
+
+static int is_late(void *clock)
+{
+    int late;
+    (void)clock;
+    accesses++;
+    sim_wait(SIM_ACCESS);
+    late = sim_now() > deadline;
+    if (verbose)
+        printf("     c,clock,%04x\n", late);
+    return late;
+}
+
+static const struct ch32_i2c_port port = {CH32_I2C_CHIP_V3, NULL, read_register, write_register, NULL, start_clock, is_late};
+
+/* ---- what is printed ---- */
+
+static unsigned calls;
+static uint64_t call_started;
+
+static void call(const char *what)
+{
+    printf("\n%2u. %s\n", ++calls, what);
+    call_started = sim_now();
+    accesses = 0;
+}
+
+/* What was on the wire, the 50 us after the call included; then the end, which is to be `wanted`. */
+static void result(unsigned end, unsigned wanted)
+{
+    static const char *const ends[] = {"done", "bus error", "arbitration lost", "Nack", "timeout", "CRC error", "overrun"};
+    uint64_t time = sim_now() - call_started;
+    char text[4096], *word;
+    size_t column = 0;
+    sim_wait(50000);
+    strcpy(text, sim_wire());
+    for (word = strtok(text, " "); word; word = strtok(NULL, " ")) {
+        if (column + strlen(word) > 110)
+            column = (size_t)printf("\n          ") - 1;
+        else if (column == 0)
+            column = (size_t)printf("    wire  ");
+        column += (size_t)printf(" %s", word);
+    }
+    if (column)
+        printf("\n");
+    printf("    end    %u, %s; %lu accesses in %llu us\n", end, end <= 6 ? ends[end] : "refused", accesses,
+           (unsigned long long)time / 1000);
+    if (end != wanted) {
+        printf("    WRONG: %u was expected\n", wanted);
+        wrong = 1;
+    }
+}
+
+static void expect(int holds, const char *what)
+{
+    if (!holds) {
+        printf("    WRONG: %s\n", what);
+        wrong = 1;
+    }
+}
+
+/* ---- the calls ---- */
+
+static void set_up(void)
+{
+    call("init: 36 MHz, bus at 100 kHz");
+    result(ch32_i2c_init(&port, SIM_INPUT, 100000, CH32_I2C_DUTY_2_1), 0);
+}
+
+static void temperature(const char *what)
+{
+    static const uint8_t pointer[1] = {0};
+    uint8_t bytes[2] = {0, 0};
+    call(what);
+    result(ch32_i2c_write_read(&port, SENSOR, pointer, 1, bytes, 2), 0);
+    printf("    read   %02x %02x: %.2f degrees\n", bytes[0], bytes[1], (int16_t)(bytes[0] << 8 | bytes[1]) / 256.0);
+    expect(bytes[0] == 0x17 && bytes[1] == 0x80, "23.50 degrees");
+}
+
+/* Three writes, one run: a pointer, a header and a body from places of their own. */
+static void joined_writes(void)
+{
+    static const uint8_t written[6] = {0x10, 0xca, 0xfe, 0x01, 0x02, 0x03};
+    uint8_t list[3 * CH32_I2C_OPERATION_SIZE];
+    size_t used = 0;
+    used = ch32_i2c_put_operation(list, used, CH32_I2C_DIRECTION_WRITE, 1);
+    used = ch32_i2c_put_operation(list, used, CH32_I2C_DIRECTION_WRITE, 2);
+    used = ch32_i2c_put_operation(list, used, CH32_I2C_DIRECTION_WRITE, 3);
+    call("transaction with the EEPROM: write 1, write 2, write 3, joined");
+    result(ch32_i2c_transaction(&port, EEPROM, list, used, written, sizeof written, NULL, 0), 0);
+    expect(memcmp(eeprom.bytes + 0x10, written + 1, 5) == 0, "the EEPROM holds the bytes");
+}
+
+/* The EEPROM is busy with its page, and does not acknowledge. */
+static void wait_for_eeprom(void)
+{
+    unsigned tries = 1, end;
+    call("empty writes until the EEPROM is ready: the first");
+    result(ch32_i2c_write(&port, EEPROM, NULL, 0), CH32_I2C_NACK);
+    do {
+        tries++;
+        call("again");
+        end = ch32_i2c_write(&port, EEPROM, NULL, 0);
+        result(end, end == 0 ? 0 : CH32_I2C_NACK);
+    } while (end == CH32_I2C_NACK && tries < 20);
+    expect(end == 0, "it becomes ready");
+}
+
+static void joined_reads(void)
+{
+    static const uint8_t pointer[1] = {0x10};
+    uint8_t list[3 * CH32_I2C_OPERATION_SIZE], bytes[5] = {0};
+    size_t used = 0;
+    used = ch32_i2c_put_operation(list, used, CH32_I2C_DIRECTION_WRITE, 1);
+    used = ch32_i2c_put_operation(list, used, CH32_I2C_DIRECTION_READ, 2);
+    used = ch32_i2c_put_operation(list, used, CH32_I2C_DIRECTION_READ, 3);
+    call("transaction with the EEPROM: write 1, read 2, read 3, the reads joined");
+    result(ch32_i2c_transaction(&port, EEPROM, list, used, pointer, 1, bytes, sizeof bytes), 0);
+    printf("    read   %02x %02x, %02x %02x %02x\n", bytes[0], bytes[1], bytes[2], bytes[3], bytes[4]);
+    expect(memcmp(bytes, "\xca\xfe\x01\x02\x03", 5) == 0, "the bytes written before");
+}
+
+/* Three runs, two of them reads with a START between them. */
+static void two_read_runs(void)
+{
+    static const uint8_t pointer[1] = {0x12};
+    uint8_t list[3 * CH32_I2C_OPERATION_SIZE], bytes[3] = {0};
+    size_t used = 0;
+    used = ch32_i2c_put_operation(list, used, CH32_I2C_DIRECTION_READ, 1);
+    used = ch32_i2c_put_operation(list, used, CH32_I2C_DIRECTION_WRITE, 1);
+    used = ch32_i2c_put_operation(list, used, CH32_I2C_DIRECTION_READ, 2);
+    call("transaction with the EEPROM: read 1, write 1, read 2");
+    result(ch32_i2c_transaction(&port, EEPROM, list, used, pointer, 1, bytes, sizeof bytes), 0);
+    printf("    read   %02x, %02x %02x\n", bytes[0], bytes[1], bytes[2]);
+    expect(memcmp(bytes, "\xff\x01\x02", 3) == 0, "what lies behind, then what the pointer says");
+}
+
+static void missing(void)
+{
+    uint8_t byte;
+    call("read from 0x33, where no device is");
+    result(ch32_i2c_read(&port, 0x33, &byte, 1), CH32_I2C_NACK);
+}
+
+static void hold_scl(uint64_t time, const char *what)
+{
+    static const uint8_t limit[3] = {3, 0x50, 0x00};
+    sensor.hold_next = time;
+    call(what);
+    result(ch32_i2c_write(&port, SENSOR, limit, sizeof limit), CH32_I2C_TIMEOUT);
+}
+
+/* The sensor holds SCL low for longer than a call may take. The call is late, and asks STOP before it ends. The byte under way and STOP come
+ * out when the sensor lets go, and the next call waits for that. */
+static void late(void)
+{
+    hold_scl(3000000, "write a limit to the sensor, which holds SCL low for 3 ms; a call may take 2 ms");
+    temperature("write-read from the sensor: first waits until that STOP is out");
+}
+
+/* For so long that the next call is late too. It finds STOP still asked, and resets the peripheral with its clock settings kept. */
+static void late_twice(void)
+{
+    static const uint8_t pointer[1] = {0};
+    uint8_t bytes[2];
+    hold_scl(5000000, "the same, but SCL is held for 5 ms");
+    call("write-read from the sensor: STOP is still not out, the peripheral is reset");
+    result(ch32_i2c_write_read(&port, SENSOR, pointer, 1, bytes, 2), CH32_I2C_TIMEOUT);
+    temperature("again: START comes when SCL is free");
+}
+
+static void fast(void)
+{
+    call("init: bus at 400 kHz");
+    result(ch32_i2c_init(&port, SIM_INPUT, 400000, CH32_I2C_DUTY_16_9), 0);
+    temperature("write-read from the sensor");
+}
+
+static void refused(void)
+{
+    call("init: bus at 1 MHz");
+    result(ch32_i2c_init(&port, SIM_INPUT, 1000000, CH32_I2C_DUTY_2_1), CH32_I2C_INVALID_FREQUENCY);
+    call("write to address 0x80");
+    result(ch32_i2c_write(&port, 0x80, NULL, 0), CH32_I2C_INVALID_ADDRESS);
+}
+
+int main(int count, char **arguments)
+{
+    if (count < 2) {
+        fprintf(stderr, "usage: demo FILE.vcd [-v]\n");
+        return 2;
+    }
+    verbose = count > 2 && strcmp(arguments[2], "-v") == 0;
+    vcd_open(arguments[1]);
+    eeprom_make(&eeprom, EEPROM);
+    sensor_make(&sensor, SENSOR, 23.5);
+    sim_attach(&eeprom.device);
+    sim_attach(&sensor.device);
+    printf("An EEPROM at 0x50 and a temperature sensor at 0x48 behind a simulated CH32V I2C peripheral.\n");
+    set_up();
+    temperature("write-read from the sensor: its register 0");
+    joined_writes();
+    wait_for_eeprom();
+    joined_reads();
+    two_read_runs();
+    missing();
+    late();
+    late_twice();
+    fast();
+    refused();
+    sim_wait(1000000);
+    vcd_close(sim_now());
+    printf("\n%u calls, %s; waveform in %s\n", calls, wrong ? "SOME WRONG" : "all as expected", arguments[1]);
+    return wrong;
+}
