@@ -39,6 +39,10 @@ $(CHIP_LIBS): $(ORACLE)/libchip%.rlib: $(ORACLE)/librecord.rlib $(SHIM_LIBS) $(H
 $(ORACLE)/liboracle.rlib: $(CHIP_LIBS) $(PROGRAM)
 	$(RLIB) --extern record=$(ORACLE)/librecord.rlib $(CHIPS) --crate-name oracle oracle/program/lib.rs
 
+$(ORACLE)/oracle: $(ORACLE)/liboracle.rlib
+	$(RUST) --extern record=$(ORACLE)/librecord.rlib --extern oracle=$(ORACLE)/liboracle.rlib \
+	  --crate-name oracle_program -o $@ oracle/program/oracle.rs
+
 $(ORACLE)/compare: $(ORACLE)/liboracle.rlib $(CH32_LIB)
 	$(RUST) --extern record=$(ORACLE)/librecord.rlib --extern oracle=$(ORACLE)/liboracle.rlib \
 	  -C link-arg=$(CH32_LIB) --crate-name compare -o $@ oracle/program/compare.rs

@@ -67,6 +67,20 @@ impl Mood {
         }
         mood
     }
+
+    /// Nothing goes wrong, and a slave's call ends after `MadeUp::looks`.
+    pub fn calm(limit: u64) -> Self {
+        Self {
+            limit,
+            random_word: 0,
+            error: 0,
+            late: 0,
+            flag: 1024,
+            pending: 0,
+            not_master: 0,
+            over: 0,
+        }
+    }
 }
 
 /// The answers of a call, made as they are asked.

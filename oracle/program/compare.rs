@@ -2,6 +2,7 @@
 //!
 //!     compare SEED CALLS [ENTRY [CHIP]]    random calls, CALLS of each entry on each chip
 //!     compare replay SEED ENTRY CHIP NUMBER    one of them again, with its whole record
+//!     compare sample FILE    the stored sample
 //!     compare lines    calls from standard input, one line each (the form in which differences are printed)
 
 mod library;
@@ -13,7 +14,7 @@ use std::time::Instant;
 
 use oracle::generate::{Generator, Sizes};
 use oracle::random::Random;
-use oracle::{rust, text};
+use oracle::{rust, sample_file, text};
 use record::{Call, Entry, Given, Record, ENTRIES};
 use rust::Outcome;
 
@@ -153,6 +154,18 @@ fn compare_lines() {
     println!("{count} calls, 0 differences");
 }
 
+fn compare_sample(path: &str) {
+    let calls = sample_file::decode(&std::fs::read(path).expect("the sample can be read"));
+    let mut player = Player::default();
+    for (number, (sampled, outcome)) in calls.iter().enumerate() {
+        if let Err(difference) = player.play(&sampled.call, outcome, &mut Random::of(&[number as u64])) {
+            report(&sampled.call, outcome, &difference);
+            exit(1);
+        }
+    }
+    println!("{} calls of the sample, 0 differences", calls.len());
+}
+
 fn main() {
     rust::silence_panics();
     let arguments: Vec<String> = std::env::args().skip(1).collect();
@@ -160,6 +173,7 @@ fn main() {
     let number = |text: &str| text.parse::<u64>().ok();
     match arguments[..] {
         ["lines"] => compare_lines(),
+        ["sample", path] => compare_sample(path),
         ["replay", seed, entry, chip, n] => match (number(seed), Entry::named(entry), number(chip), number(n)) {
             (Some(seed), Some(entry), Some(chip), Some(n)) => replay(seed, entry, chip as u8, n),
             _ => usage(),
@@ -182,6 +196,6 @@ fn chosen(rest: &[&str]) -> Option<(Vec<Entry>, Vec<u8>)> {
 }
 
 fn usage() {
-    println!("compare SEED CALLS [ENTRY [CHIP]] | compare replay SEED ENTRY CHIP NUMBER | compare lines");
+    println!("compare SEED CALLS [ENTRY [CHIP]] | compare replay SEED ENTRY CHIP NUMBER | compare sample FILE | compare lines");
     exit(2);
 }

@@ -1,8 +1,13 @@
 //! Calls on the carried Rust: made, run and written down.
 
 pub mod answers;
+pub mod bench;
 pub mod causes;
+pub mod coverage;
+pub mod edges;
 pub mod generate;
 pub mod random;
 pub mod rust;
+pub mod sample;
+pub mod sample_file;
 pub mod text;

@@ -1,0 +1,132 @@
+//! `oracle`: calls on the carried Rust alone.
+//!
+//!     oracle bench    document 01's bench input from standard input, as the Rust runs it
+//!     oracle lines    calls from standard input, one line each, with their records
+//!     oracle calls SEED COUNT [ENTRY [CHIP]]    random calls as lines
+//!     oracle sample FILE SEED TRIES    chooses the sample and writes it
+//!     oracle check FILE    runs a sample's calls again
+
+use std::collections::HashSet;
+use std::io::Read;
+use std::process::exit;
+
+use oracle::generate::{Generator, Sizes};
+use oracle::sample::Chosen;
+use oracle::{bench, coverage, rust, sample, sample_file, text};
+use record::{Entry, Given, Place, Record, ENTRIES};
+
+fn input() -> String {
+    let mut input = String::new();
+    std::io::stdin().read_to_string(&mut input).expect("standard input is text");
+    input
+}
+
+fn lines() {
+    for line in input().lines() {
+        match text::parse_call(line) {
+            Err(field) => println!("not a call: {field}"),
+            Ok((call, answers)) => {
+                let source = Box::new(Given { answers, used: 0 });
+                print!("{}", text::record_text(&rust::run(&call, Record::default(), source, false)));
+            }
+        }
+    }
+}
+
+fn calls(seed: u64, count: u64, entries: &[Entry], chips: &[u8]) {
+    for entry in entries {
+        for chip in chips {
+            for number in 0..count {
+                let (call, answers) = Generator::new(seed, *entry, *chip, number, Sizes::All).call(*entry, *chip);
+                let outcome = rust::run(&call, Record::default(), answers, false);
+                println!("{}", text::call_line(&call, &outcome.record.answers));
+            }
+        }
+    }
+}
+
+/// The lines and ends that the sample should show and does not.
+fn missing(chosen: &[Chosen]) -> Vec<String> {
+    let mut missing = Vec::new();
+    for chip in 0..4 {
+        let on_chip = || chosen.iter().filter(move |call| call.chip == chip);
+        let reached: HashSet<Place> = on_chip().flat_map(|call| call.places.iter().copied()).collect();
+        for line in coverage::lines(chip).into_iter().filter(|line| !reached.contains(line)) {
+            missing.push(format!("chip {chip}: line {}", coverage::line_text(line)));
+        }
+        for entry in ENTRIES {
+            let mut ends: Vec<Option<u8>> = coverage::ends(entry, chip).into_iter().map(Some).collect();
+            ends.push(None);
+            // A chip that does not exist is refused with 16 under its own number.
+            ends.retain(|end| !(*end == Some(16) && matches!(entry, Entry::Listen | Entry::RespondToWrite | Entry::RespondToRead)));
+            let has = |end: &Option<u8>| on_chip().any(|call| call.entry == entry && call.end == *end);
+            missing.extend(ends.iter().filter(|end| !has(end)).map(|end| format!("chip {chip}: {} end {end:?}", entry.name())));
+        }
+    }
+    missing
+}
+
+fn write_sample(path: &str, seed: u64, tries: u64) {
+    let chosen = sample::sample(seed, tries);
+    let bytes = sample::file(&chosen);
+    std::fs::write(path, &bytes).expect("the sample can be written");
+    for entry in ENTRIES {
+        let of_entry: Vec<&Chosen> = chosen.iter().filter(|call| call.entry == entry).collect();
+        let accesses: usize = of_entry.iter().map(|call| call.places.len()).sum();
+        println!("{:16} {} calls, {accesses} accesses", entry.name(), of_entry.len());
+    }
+    println!("{} calls, {} bytes", chosen.len(), bytes.len());
+    let lines: usize = (0..4).map(|chip| coverage::lines(chip).len()).sum();
+    let missing = missing(&chosen);
+    println!("{lines} access lines on four chips; {} lines or ends missing", missing.len());
+    missing.iter().for_each(|text| println!("missing: {text}"));
+    if !missing.is_empty() {
+        exit(1);
+    }
+}
+
+fn check_sample(path: &str) {
+    let bytes = std::fs::read(path).expect("the sample can be read");
+    let calls = sample_file::decode(&bytes);
+    for (number, (sampled, stored)) in calls.iter().enumerate() {
+        let answers = Box::new(Given {
+            answers: stored.record.answers.clone(),
+            used: 0,
+        });
+        let again = rust::run(&sampled.call, Record::default(), answers, false);
+        let same = again.record.accesses == stored.record.accesses && again.end == stored.end && again.read == stored.read;
+        if !same {
+            println!("call {number} differs: {}", text::call_line(&sampled.call, &stored.record.answers));
+            exit(1);
+        }
+    }
+    println!("{} calls of the sample, all as the Rust runs them", calls.len());
+}
+
+fn main() {
+    rust::silence_panics();
+    let arguments: Vec<String> = std::env::args().skip(1).collect();
+    let arguments: Vec<&str> = arguments.iter().map(String::as_str).collect();
+    let number = |text: &str| text.parse::<u64>().unwrap_or_else(|_| usage());
+    match arguments[..] {
+        ["bench"] => print!("{}", bench::run(&input())),
+        ["lines"] => lines(),
+        ["calls", seed, count] => calls(number(seed), number(count), &ENTRIES, &[0, 1, 2, 3]),
+        ["calls", seed, count, entry] => calls(number(seed), number(count), &[named(entry)], &[0, 1, 2, 3]),
+        ["calls", seed, count, entry, chip] => {
+            calls(number(seed), number(count), &[named(entry)], &[number(chip) as u8 & 3])
+        }
+        ["sample", path, seed, tries] => write_sample(path, number(seed), number(tries)),
+        ["check", path] => check_sample(path),
+        _ => usage(),
+    }
+}
+
+fn named(entry: &str) -> Entry {
+    Entry::named(entry).unwrap_or_else(|| usage())
+}
+
+fn usage() -> ! {
+    println!("oracle bench | lines | calls SEED COUNT [ENTRY [CHIP]] | sample FILE SEED TRIES | check FILE");
+    exit(2)
+}
