@@ -7,8 +7,9 @@ ORACLE_SRC ?= oracle
 CALLS ?= 100000
 SEED ?= 1
 
-RUST = $(RUSTC) --edition 2021 -C opt-level=3 -C codegen-units=1 -L $(ORACLE)
-RLIB = $(RUST) --crate-type rlib --out-dir $(ORACLE)
+ORACLE_OPT ?= 3
+RUST = MAKEFLAGS= $(RUSTC) --edition 2021 -C opt-level=$(ORACLE_OPT) -C codegen-units=1 -L $(ORACLE)
+RLIB = $(RUST) -C overflow-checks=on --crate-type rlib --out-dir $(ORACLE)
 SHIMS = critical_section embassy_time embassy_sync embassy_futures embedded_hal embedded_hal_async embassy_hal_internal
 SHIM_LIBS = $(SHIMS:%=$(ORACLE)/lib%.rlib)
 CHIP_LIBS = $(ORACLE)/libchip0.rlib $(ORACLE)/libchip1.rlib $(ORACLE)/libchip2.rlib $(ORACLE)/libchip3.rlib
@@ -23,15 +24,21 @@ FLAGS_1 = --cfg i2c_v3
 FLAGS_2 = --cfg ch32v4
 FLAGS_3 = --cfg i2c_v3 --cfg ch32v4
 
+# The project's own archive is made by `make lib`.
+ifeq ($(CH32_LIB),target/lib/libch32_i2c.a)
+$(CH32_LIB): lib ;
+endif
+
 $(ORACLE)/librecord.rlib: oracle/record/lib.rs oracle/record/call.rs
 	@mkdir -p $(ORACLE)
 	$(RLIB) --crate-name record $<
 
 $(ORACLE)/libembedded_hal_async.rlib: $(ORACLE)/libembedded_hal.rlib
+$(ORACLE)/libembedded_hal_async.rlib: SHIM_EXTERN = --extern embedded_hal=$(ORACLE)/libembedded_hal.rlib
 
 $(SHIM_LIBS): $(ORACLE)/lib%.rlib: oracle/shims/%.rs
 	@mkdir -p $(ORACLE)
-	$(RLIB) --crate-name $* $<
+	$(RLIB) $(SHIM_EXTERN) --crate-name $* $<
 
 $(CHIP_LIBS): $(ORACLE)/libchip%.rlib: $(ORACLE)/librecord.rlib $(SHIM_LIBS) $(HAL)
 	$(RLIB) $(EXTERNS) --cfg 'feature="embassy"' $(FLAGS_$*) --crate-name chip$* $(ORACLE_SRC)/hal/lib.rs
@@ -47,8 +54,46 @@ $(ORACLE)/compare: $(ORACLE)/liboracle.rlib $(CH32_LIB)
 	$(RUST) --extern record=$(ORACLE)/librecord.rlib --extern oracle=$(ORACLE)/liboracle.rlib \
 	  -C link-arg=$(CH32_LIB) --crate-name compare -o $@ oracle/program/compare.rs
 
-.PHONY: compare
+$(ORACLE)/speed: $(ORACLE)/liboracle.rlib $(CH32_LIB)
+	$(RUST) --extern record=$(ORACLE)/librecord.rlib --extern oracle=$(ORACLE)/liboracle.rlib \
+	  -C link-arg=$(CH32_LIB) --crate-name speed -o $@ oracle/program/speed.rs
+
+.PHONY: speed compare compare-faults sample oracle-check
 
 # The carried Rust and the C library on the same calls: CALLS of each entry on each chip.
 compare: $(ORACLE)/compare
 	$(ORACLE)/compare $(SEED) $(CALLS)
+
+# Instructions and time for each access, the C library beside the Rust. Needs valgrind.
+speed: $(ORACLE)/speed
+	$(ORACLE)/speed
+
+# The comparison has to find each planted fault: an edit of a copy of the carried Rust.
+FAULTS = $(wildcard oracle/faults/*.patch)
+FAULT_RESULTS = $(FAULTS:oracle/faults/%.patch=$(ORACLE)/faults/%/result)
+
+$(FAULT_RESULTS): $(ORACLE)/faults/%/result: oracle/faults/%.patch $(HAL) $(PROGRAM) $(CH32_LIB)
+	@rm -rf $(@D) && mkdir -p $(@D)/src && cp -r oracle/hal oracle/carried $(@D)/src
+	@patch -s -p1 -d $(@D)/src < $<
+	@$(MAKE) -s --no-print-directory ORACLE=$(@D) ORACLE_SRC=$(@D)/src ORACLE_OPT=1 $(@D)/compare > $(@D)/log 2>&1
+	@$(@D)/compare until $(SEED) $(CALLS) > $@.new; echo "$*: $$(cat $@.new)"
+	@rm -rf $(@D)/src $(@D)/*.rlib $(@D)/compare && mv $@.new $@
+
+compare-faults: $(FAULT_RESULTS)
+	@grep -L '^found' $(FAULT_RESULTS); test -z "$$(grep -L '^found' $(FAULT_RESULTS))"
+	@echo "$(words $(FAULTS)) planted faults, all found"
+
+# The stored sample, chosen anew.
+SAMPLE ?= oracle/sample.bin
+sample: $(ORACLE)/oracle
+	$(ORACLE)/oracle sample $(SAMPLE) $(SEED) 3000
+
+# The oracle by itself: the carried files are the originals where these are at hand, document 01's example, the sample.
+ORIGINALS ?= ../shared/docs/src
+oracle-check: $(ORACLE)/oracle
+	@for file in i2c.rs i2c/slave.rs time.rs; do \
+	  if [ -e $(ORIGINALS)/$$file ]; then cmp $(ORIGINALS)/$$file oracle/carried/src/$$file; fi || exit 1; \
+	done
+	$(ORACLE)/oracle bench < oracle/example.txt | cmp - oracle/example.expected
+	$(ORACLE)/oracle check $(SAMPLE)
+	$(ORACLE)/oracle panics $(SEED) 20000

@@ -153,11 +153,17 @@ pub fn run(call: &Call, buffer: &mut [u8]) -> (u8, u16) {
         Entry::Init => init(call),
         Entry::Transaction => {
             let address = call.address as u8;
-            end(driver::<Master>().blocking_transaction(address, &mut operations(call, buffer)), |()| 0)
+            end(
+                driver::<Master>().blocking_transaction(address, &mut operations(call, buffer)),
+                |()| 0,
+            )
         }
         Entry::WriteRead => {
             let address = call.address as u8;
-            end(driver::<Master>().blocking_write_read(address, &call.written, buffer), |()| 0)
+            end(
+                driver::<Master>().blocking_write_read(address, &call.written, buffer),
+                |()| 0,
+            )
         }
         Entry::Write => end(write(call), |()| 0),
         Entry::Read => end(read(call, buffer), |()| 0),

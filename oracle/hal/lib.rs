@@ -15,7 +15,7 @@ mod mode;
 mod peripheral;
 
 pub use embassy_hal_internal::{self as internal, Peri};
-pub use peripheral::{peripherals, Timeout, _generated};
+pub use peripheral::{_generated, peripherals, Timeout};
 
 #[path = "../carried/src"]
 mod carried {

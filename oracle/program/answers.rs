@@ -95,11 +95,18 @@ pub struct MadeUp {
 impl MadeUp {
     fn flags(&mut self, flags: &[u16]) -> u16 {
         let chance = self.mood.flag;
-        flags.iter().map(|flag| if self.random.chance(chance) { *flag } else { 0 }).sum()
+        flags
+            .iter()
+            .map(|flag| if self.random.chance(chance) { *flag } else { 0 })
+            .sum()
     }
 
     fn unused(&mut self) -> u16 {
-        if self.random.one_in(4) { self.random.word() & UNUSED } else { 0 }
+        if self.random.one_in(4) {
+            self.random.word() & UNUSED
+        } else {
+            0
+        }
     }
 
     fn errors(&mut self) -> u16 {
@@ -116,14 +123,22 @@ impl MadeUp {
     /// That the other side ends a slave's call now.
     fn is_over(&mut self) -> bool {
         self.looks = self.looks.saturating_sub(1);
-        if self.mood.over == 0 { self.looks == 0 } else { self.random.chance(self.mood.over) }
+        if self.mood.over == 0 {
+            self.looks == 0
+        } else {
+            self.random.chance(self.mood.over)
+        }
     }
 
     fn status_for_master(&mut self, before: &[u32]) -> u16 {
         let status = self.flags(&[SB, ADDR, BTF, RXNE, TXE]) | self.random.word() & STOPF;
         // The look at SB before START.
         let at_start = before.last() == Some(&read_of(CTLR1));
-        if at_start && !self.random.one_in(8) { status & !SB } else { status }
+        if at_start && !self.random.one_in(8) {
+            status & !SB
+        } else {
+            status
+        }
     }
 
     fn status_for_slave(&mut self) -> u16 {
@@ -132,22 +147,35 @@ impl MadeUp {
         match self.entry {
             Entry::Listen if over => idle | ADDR | self.random.word() & (STOPF | RXNE | TXE),
             Entry::Listen => idle | self.random.word() & (STOPF | RXNE | TXE),
-            Entry::RespondToWrite if over => idle | self.random.pick(&[STOPF, ADDR, STOPF | ADDR]) | self.random.word() & TXE,
+            Entry::RespondToWrite if over => {
+                idle | self.random.pick(&[STOPF, ADDR, STOPF | ADDR]) | self.random.word() & TXE
+            }
             Entry::RespondToWrite => idle | self.flags(&[RXNE]) | self.random.word() & TXE,
-            _ if over => idle | self.random.pick(&[STOPF, ADDR, AF, STOPF | ADDR, AF | STOPF, AF | ADDR]) | self.random.word() & TXE,
+            _ if over => {
+                idle | self
+                    .random
+                    .pick(&[STOPF, ADDR, AF, STOPF | ADDR, AF | STOPF, AF | ADDR])
+                    | self.random.word() & TXE
+            }
             _ => idle | self.flags(&[TXE]) | self.random.word() & RXNE,
         }
     }
 
     fn status(&mut self, before: &[u32]) -> u16 {
         let is_slave = matches!(self.entry, Entry::Listen | Entry::RespondToWrite | Entry::RespondToRead);
-        let status = if is_slave { self.status_for_slave() } else { self.status_for_master(before) };
+        let status = if is_slave {
+            self.status_for_slave()
+        } else {
+            self.status_for_master(before)
+        };
         status | self.errors() | self.unused()
     }
 
     fn control(&mut self, before: &[u32]) -> u16 {
         let word = self.random.word();
-        let in_abort = before.last().is_some_and(|a| kind(*a) == WRITE && register(*a) == CTLR2);
+        let in_abort = before
+            .last()
+            .is_some_and(|a| kind(*a) == WRITE && register(*a) == CTLR2);
         if in_abort {
             return match self.random.below(4) {
                 0 => word,

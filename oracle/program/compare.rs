@@ -1,6 +1,7 @@
 //! `compare`: the carried Rust and the C library on the same calls.
 //!
 //!     compare SEED CALLS [ENTRY [CHIP]]    random calls, CALLS of each entry on each chip
+//!     compare until SEED CALLS    the same calls, all entries and chips by turns, up to the first difference
 //!     compare replay SEED ENTRY CHIP NUMBER    one of them again, with its whole record
 //!     compare sample FILE    the stored sample
 //!     compare lines    calls from standard input, one line each (the form in which differences are printed)
@@ -104,7 +105,12 @@ fn compare_all(seed: u64, calls: u64, entries: &[Entry], chips: &[u8]) {
                     total.accesses += tally.accesses;
                 }
                 Err(number) => {
-                    println!("found after {} calls ({} of {} on chip {chip})", done + number, number, entry.name());
+                    println!(
+                        "found after {} calls ({} of {} on chip {chip})",
+                        done + number,
+                        number,
+                        entry.name()
+                    );
                     exit(1);
                 }
             }
@@ -118,6 +124,23 @@ fn compare_all(seed: u64, calls: u64, entries: &[Entry], chips: &[u8]) {
         player.refused_steps,
         began.elapsed().as_secs_f64()
     );
+}
+
+/// All entries and chips by turns, up to the first difference.
+fn compare_until(seed: u64, calls: u64) {
+    let mut player = Player::default();
+    let mut count = 0u64;
+    for number in 0..calls {
+        for (entry, chip) in ENTRIES.iter().flat_map(|entry| [0, 1, 2, 3].map(|chip| (*entry, chip))) {
+            let (call, outcome, mut random) = made_call(seed, entry, chip, number, Record::default());
+            count += 1;
+            if let Err(difference) = player.play(&call, &outcome, &mut random) {
+                println!("found at call {count}, {} on chip {chip}: {difference}", entry.name());
+                exit(1);
+            }
+        }
+    }
+    println!("NOT FOUND in {count} calls");
 }
 
 fn replay(seed: u64, entry: Entry, chip: u8, number: u64) {
@@ -174,6 +197,10 @@ fn main() {
     match arguments[..] {
         ["lines"] => compare_lines(),
         ["sample", path] => compare_sample(path),
+        ["until", seed, calls] => match (number(seed), number(calls)) {
+            (Some(seed), Some(calls)) => compare_until(seed, calls),
+            _ => usage(),
+        },
         ["replay", seed, entry, chip, n] => match (number(seed), Entry::named(entry), number(chip), number(n)) {
             (Some(seed), Some(entry), Some(chip), Some(n)) => replay(seed, entry, chip as u8, n),
             _ => usage(),
@@ -196,6 +223,6 @@ fn chosen(rest: &[&str]) -> Option<(Vec<Entry>, Vec<u8>)> {
 }
 
 fn usage() {
-    println!("compare SEED CALLS [ENTRY [CHIP]] | compare replay SEED ENTRY CHIP NUMBER | compare sample FILE | compare lines");
+    println!("compare SEED CALLS [ENTRY [CHIP]] | compare until SEED CALLS | compare replay SEED ENTRY CHIP NUMBER | compare sample FILE | compare lines");
     exit(2);
 }

@@ -30,7 +30,8 @@ pub fn lines(chip: u8) -> Vec<Place> {
             outside = opens_other_part(line).unwrap_or(outside);
             helper = is_async_helper(line).unwrap_or(helper);
             let absent = before.trim() == "#[cfg(i2c_v3)]" && chip & 1 == 0;
-            if !outside && !helper && !absent && MARKS.iter().any(|mark| line.contains(mark)) {
+            let is_comment = line.trim_start().starts_with("//");
+            if !outside && !helper && !absent && !is_comment && MARKS.iter().any(|mark| line.contains(mark)) {
                 lines.push((file as u8, index as u32 + 1));
             }
             before = line;
@@ -42,8 +43,19 @@ pub fn lines(chip: u8) -> Vec<Place> {
 /// The text of a line.
 pub fn line_text(place: Place) -> String {
     let name = ["i2c.rs", "slave.rs"][place.0 as usize];
-    let text = SOURCES[place.0 as usize].lines().nth(place.1 as usize - 1).unwrap_or("");
+    let text = SOURCES[place.0 as usize]
+        .lines()
+        .nth(place.1 as usize - 1)
+        .unwrap_or("");
     format!("{name}:{} {}", place.1, text.trim())
+}
+
+/// The entries at which only a chip that does not exist gives 16, so that no chip has that end.
+pub fn has_16_by_chip_alone(entry: Entry) -> bool {
+    matches!(
+        entry,
+        Entry::WriteRead | Entry::Listen | Entry::RespondToWrite | Entry::RespondToRead
+    )
 }
 
 /// The numbers with which an entry can end on a chip.

@@ -38,7 +38,7 @@ fn on_chip(entry: Entry, chip: u8) -> Call {
 }
 
 /// A transaction of these operations: `true` reads.
-fn transaction(chip: u8, operations: &[(bool, u16)]) -> Call {
+pub fn transaction(chip: u8, operations: &[(bool, u16)]) -> Call {
     let mut call = on_chip(Entry::Transaction, chip);
     call.address = 0x21;
     for (reads, length) in operations {
@@ -126,11 +126,16 @@ impl Edges<'_> {
 
     /// Each error flag by itself, 0x0600 and all of them: while the master waits for SB, and in a slave's loop.
     fn status_words(&mut self, chip: u8) {
-        for status in [0x0100, 0x0200, 0x0400, 0x0800, 0x1000, 0x4000, 0x0600, 0x0500, 0x5f00, 0xffff] {
+        for status in [
+            0x0100, 0x0200, 0x0400, 0x0800, 0x1000, 0x4000, 0x0600, 0x0500, 0x5f00, 0xffff,
+        ] {
             let mut call = on_chip(Entry::Write, chip);
             (call.address, call.written) = (0x50, vec![0]);
             self.given(call, &[1, 1, 0, 1, status, 0x1f24, 1, 3, 1, 0, 0, 0, 0, 0, 0, 0, 0]);
-            self.given(on_chip(Entry::Listen, chip), &[0, 1, status, 8, 1, status, 0x1f24, 2, 1, 0, 0, 0]);
+            self.given(
+                on_chip(Entry::Listen, chip),
+                &[0, 1, status, 8, 1, status, 0x1f24, 2, 1, 0, 0, 0],
+            );
             let mut call = on_chip(Entry::RespondToWrite, chip);
             call.read = vec![0; 2];
             self.given(call, &[0x40, 0x1aa, status, 0x1f24, 2, 1, 0x40, 0x77]);
@@ -187,7 +192,15 @@ impl Edges<'_> {
             (call.address, call.written, call.read) = (address, vec![0; written], vec![0; read]);
             self.calm(call, 12);
         }
-        for entry in [Entry::Listen, Entry::RespondToWrite, Entry::RespondToRead, Entry::Write, Entry::Read] {
+        let with_chip = [
+            Entry::WriteRead,
+            Entry::Write,
+            Entry::Read,
+            Entry::Listen,
+            Entry::RespondToWrite,
+            Entry::RespondToRead,
+        ];
+        for entry in with_chip {
             let mut call = on_chip(entry, chip);
             call.block_length = 33;
             self.calm(call.clone(), 4);
@@ -199,9 +212,19 @@ impl Edges<'_> {
     /// Long buffers, with few answers.
     fn boundary_lengths(&mut self, chip: u8) {
         for length in [255, 256, 65_535, 65_536] {
-            for entry in [Entry::WriteRead, Entry::Write, Entry::Read, Entry::RespondToWrite, Entry::RespondToRead] {
+            for entry in [
+                Entry::WriteRead,
+                Entry::Write,
+                Entry::Read,
+                Entry::RespondToWrite,
+                Entry::RespondToRead,
+            ] {
                 let mut call = on_chip(entry, chip);
-                call.address = if matches!(entry, Entry::RespondToWrite | Entry::RespondToRead) { 0 } else { 0x68 };
+                call.address = if matches!(entry, Entry::RespondToWrite | Entry::RespondToRead) {
+                    0
+                } else {
+                    0x68
+                };
                 if matches!(entry, Entry::Write | Entry::RespondToRead) {
                     call.written = vec![0; length];
                 } else {
@@ -231,7 +254,10 @@ impl Edges<'_> {
         self.calm(transaction(2, &[(true, 1); 255]), 4000);
         let alternating: Vec<(bool, u16)> = (0..256).map(|i| (i % 2 == 1, 1)).collect();
         self.calm(transaction(3, &alternating), 8000);
-        self.calm(transaction(0, &[(false, 200), (false, 56), (true, 255), (true, 2)]), 4000);
+        self.calm(
+            transaction(0, &[(false, 200), (false, 56), (true, 255), (true, 2)]),
+            4000,
+        );
     }
 
     /// The bench example of document 01.

@@ -5,19 +5,23 @@
 //!     oracle calls SEED COUNT [ENTRY [CHIP]]    random calls as lines
 //!     oracle sample FILE SEED TRIES    chooses the sample and writes it
 //!     oracle check FILE    runs a sample's calls again
+//!     oracle panics SEED COUNT    bus settings that are refused with 10, 11 or 12, given to the Rust all the same
 
 use std::collections::HashSet;
 use std::io::Read;
+use std::panic::{catch_unwind, AssertUnwindSafe};
 use std::process::exit;
 
 use oracle::generate::{Generator, Sizes};
 use oracle::sample::Chosen;
-use oracle::{bench, coverage, rust, sample, sample_file, text};
-use record::{Entry, Given, Place, Record, ENTRIES};
+use oracle::{bench, causes, coverage, rust, sample, sample_file, text};
+use record::{Entry, Given, NoAnswers, OutOfAnswers, Place, Record, ENTRIES};
 
 fn input() -> String {
     let mut input = String::new();
-    std::io::stdin().read_to_string(&mut input).expect("standard input is text");
+    std::io::stdin()
+        .read_to_string(&mut input)
+        .expect("standard input is text");
     input
 }
 
@@ -27,7 +31,10 @@ fn lines() {
             Err(field) => println!("not a call: {field}"),
             Ok((call, answers)) => {
                 let source = Box::new(Given { answers, used: 0 });
-                print!("{}", text::record_text(&rust::run(&call, Record::default(), source, false)));
+                print!(
+                    "{}",
+                    text::record_text(&rust::run(&call, Record::default(), source, false))
+                );
             }
         }
     }
@@ -57,10 +64,19 @@ fn missing(chosen: &[Chosen]) -> Vec<String> {
         for entry in ENTRIES {
             let mut ends: Vec<Option<u8>> = coverage::ends(entry, chip).into_iter().map(Some).collect();
             ends.push(None);
-            // A chip that does not exist is refused with 16 under its own number.
-            ends.retain(|end| !(*end == Some(16) && matches!(entry, Entry::Listen | Entry::RespondToWrite | Entry::RespondToRead)));
-            let has = |end: &Option<u8>| on_chip().any(|call| call.entry == entry && call.end == *end);
-            missing.extend(ends.iter().filter(|end| !has(end)).map(|end| format!("chip {chip}: {} end {end:?}", entry.name())));
+            let any_chip = coverage::has_16_by_chip_alone(entry);
+            let has = |end: &Option<u8>| {
+                let counts = |call: &&Chosen| call.chip == chip || any_chip && *end == Some(16);
+                chosen
+                    .iter()
+                    .filter(counts)
+                    .any(|call| call.entry == entry && call.end == *end)
+            };
+            missing.extend(
+                ends.iter()
+                    .filter(|end| !has(end))
+                    .map(|end| format!("chip {chip}: {} end {end:?}", entry.name())),
+            );
         }
     }
     missing
@@ -78,7 +94,10 @@ fn write_sample(path: &str, seed: u64, tries: u64) {
     println!("{} calls, {} bytes", chosen.len(), bytes.len());
     let lines: usize = (0..4).map(|chip| coverage::lines(chip).len()).sum();
     let missing = missing(&chosen);
-    println!("{lines} access lines on four chips; {} lines or ends missing", missing.len());
+    println!(
+        "{lines} access lines on four chips; {} lines or ends missing",
+        missing.len()
+    );
     missing.iter().for_each(|text| println!("missing: {text}"));
     if !missing.is_empty() {
         exit(1);
@@ -94,13 +113,40 @@ fn check_sample(path: &str) {
             used: 0,
         });
         let again = rust::run(&sampled.call, Record::default(), answers, false);
-        let same = again.record.accesses == stored.record.accesses && again.end == stored.end && again.read == stored.read;
+        let same =
+            again.record.accesses == stored.record.accesses && again.end == stored.end && again.read == stored.read;
         if !same {
-            println!("call {number} differs: {}", text::call_line(&sampled.call, &stored.record.answers));
+            println!(
+                "call {number} differs: {}",
+                text::call_line(&sampled.call, &stored.record.answers)
+            );
             exit(1);
         }
     }
     println!("{} calls of the sample, all as the Rust runs them", calls.len());
+}
+
+/// The Rust has to panic, before any access, at every setting that `causes` refuses with 10, 11 or 12.
+fn panics(seed: u64, count: u64) {
+    let mut refused = [0; 3];
+    for chip in 0..4 {
+        for number in 0..count {
+            let (mut call, _) = Generator::new(seed, Entry::Init, chip, number, Sizes::All).call(Entry::Init, chip);
+            (call.block_length, call.chip, call.duty) = (32, chip, call.duty & 1);
+            let Some(cause) = causes::added(&call) else { continue };
+            record::start(Record::default(), Box::new(NoAnswers), false);
+            let result = catch_unwind(AssertUnwindSafe(|| rust::run_bare(&call, &mut [])));
+            let is_assertion = result.is_err_and(|panic| !panic.is::<OutOfAnswers>());
+            let (record, _) = record::finish();
+            if !is_assertion || !record.accesses.is_empty() {
+                println!("the Rust does not panic: {}", text::call_line(&call, &[]));
+                exit(1);
+            }
+            refused[cause as usize - 10] += 1;
+        }
+    }
+    let [ten, eleven, twelve] = refused;
+    println!("the Rust panics before any access at all of {ten} settings with 10, {eleven} with 11, {twelve} with 12");
 }
 
 fn main() {
@@ -117,6 +163,7 @@ fn main() {
             calls(number(seed), number(count), &[named(entry)], &[number(chip) as u8 & 3])
         }
         ["sample", path, seed, tries] => write_sample(path, number(seed), number(tries)),
+        ["panics", seed, count] => panics(number(seed), number(count)),
         ["check", path] => check_sample(path),
         _ => usage(),
     }
@@ -127,6 +174,6 @@ fn named(entry: &str) -> Entry {
 }
 
 fn usage() -> ! {
-    println!("oracle bench | lines | calls SEED COUNT [ENTRY [CHIP]] | sample FILE SEED TRIES | check FILE");
+    println!("oracle bench | lines | calls SEED COUNT [ENTRY [CHIP]] | sample FILE SEED TRIES | check FILE | panics SEED COUNT");
     exit(2)
 }

@@ -56,7 +56,11 @@ pub struct Player {
 }
 
 fn check(holds: bool, text: impl FnOnce() -> String) -> Result<(), String> {
-    if holds { Ok(()) } else { Err(text()) }
+    if holds {
+        Ok(())
+    } else {
+        Err(text())
+    }
 }
 
 impl Player {
@@ -69,7 +73,13 @@ impl Player {
         self.written.fill(&call.written);
         self.read.fill(&call.read);
         self.keep();
-        let first = library::begin(call, self.block.part(), self.list.part(), self.written.part(), self.read.part());
+        let first = library::begin(
+            call,
+            self.block.part(),
+            self.list.part(),
+            self.written.part(),
+            self.read.part(),
+        );
         if outcome.is_refused() {
             let end = outcome.end.unwrap_or(0) as u64;
             check(first == end, || differs("begin", end, first))?;
@@ -86,19 +96,35 @@ impl Player {
     }
 
     /// Feeds the answers and compares each access. Hands back the number that follows the last of them.
-    fn play_accesses(&mut self, call: &Call, outcome: &Outcome, random: &mut Random, first: u64) -> Result<u64, String> {
+    fn play_accesses(
+        &mut self,
+        call: &Call,
+        outcome: &Outcome,
+        random: &mut Random,
+        first: u64,
+    ) -> Result<u64, String> {
         let accesses = &outcome.record.accesses;
         let mut answers = outcome.record.answers.iter();
         // Now and then a bad step is offered in between.
-        let bad_step_at = if random.one_in(8) { random.below(accesses.len() as u64 + 1) as usize } else { usize::MAX };
+        let bad_step_at = if random.one_in(8) {
+            random.below(accesses.len() as u64 + 1) as usize
+        } else {
+            usize::MAX
+        };
         let mut number = first;
         for (place, access) in accesses.iter().enumerate() {
-            check(number == *access as u64, || differs(&format!("access {place}"), *access as u64, number))?;
+            check(number == *access as u64, || {
+                differs(&format!("access {place}"), *access as u64, number)
+            })?;
             if place == bad_step_at {
                 self.bad_step(call, random)?;
             }
             // After a write the answer is ignored.
-            let answer = if kind(*access) == WRITE { Some(random.word()) } else { answers.next().copied() };
+            let answer = if kind(*access) == WRITE {
+                Some(random.word())
+            } else {
+                answers.next().copied()
+            };
             let Some(answer) = answer else { break };
             number = self.step(call.entry, answer);
         }
@@ -117,7 +143,12 @@ impl Player {
     }
 
     fn check_kept(&self, what: &str) -> Result<(), String> {
-        let lent = [("block", &self.block), ("list", &self.list), ("written", &self.written), ("read", &self.read)];
+        let lent = [
+            ("block", &self.block),
+            ("list", &self.list),
+            ("written", &self.written),
+            ("read", &self.read),
+        ];
         match lent.iter().find(|(_, lent)| !lent.is_kept()) {
             None => Ok(()),
             Some((name, _)) => Err(format!("{what} changed the bytes of {name}")),
@@ -150,8 +181,17 @@ impl Player {
         self.refused_steps += 1;
         self.keep();
         let (list, written, read) = (self.list.part(), self.written.part(), self.read.part());
-        let number = library::step(call.entry, &mut self.block.part()[..length], list, written, read, random.word());
-        check(number == REFUSED_STEP, || differs("a step with a short block", REFUSED_STEP, number))?;
+        let number = library::step(
+            call.entry,
+            &mut self.block.part()[..length],
+            list,
+            written,
+            read,
+            random.word(),
+        );
+        check(number == REFUSED_STEP, || {
+            differs("a step with a short block", REFUSED_STEP, number)
+        })?;
         self.check_kept("a step with a short block")
     }
 
@@ -181,8 +221,12 @@ impl Player {
 
     fn check_bytes(&self, call: &Call, outcome: &Outcome) -> Result<(), String> {
         check(self.list.holds(&call.list), || "the list was changed".into())?;
-        check(self.written.holds(&call.written), || "the written bytes were changed".into())?;
-        check(self.read.holds(&outcome.read), || format!("bytes read: the Rust {:02x?}", outcome.read))?;
+        check(self.written.holds(&call.written), || {
+            "the written bytes were changed".into()
+        })?;
+        check(self.read.holds(&outcome.read), || {
+            format!("bytes read: the Rust {:02x?}", outcome.read)
+        })?;
         let end = self.block.bytes.len() - GUARD;
         let guards = self.block.bytes[..GUARD] == [0xa5; GUARD] && self.block.bytes[end..] == [0x5a; GUARD];
         check(guards, || "bytes beside the block were changed".into())
@@ -190,5 +234,9 @@ impl Player {
 }
 
 fn differs(what: &str, rust: u64, library: u64) -> String {
-    format!("{what}: the Rust {}, the C library {}", number_text(rust), number_text(library))
+    format!(
+        "{what}: the Rust {}, the C library {}",
+        number_text(rust),
+        number_text(library)
+    )
 }

@@ -11,7 +11,11 @@ fn mix(mut z: u64) -> u64 {
 impl Random {
     /// A source of its own for each list of numbers.
     pub fn of(numbers: &[u64]) -> Self {
-        Self(numbers.iter().fold(0, |seed, n| mix(seed ^ mix(n.wrapping_add(0x9e37_79b9_7f4a_7c15)))))
+        Self(
+            numbers
+                .iter()
+                .fold(0, |seed, n| mix(seed ^ mix(n.wrapping_add(0x9e37_79b9_7f4a_7c15)))),
+        )
     }
 
     pub fn next(&mut self) -> u64 {

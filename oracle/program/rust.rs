@@ -40,11 +40,16 @@ fn message(panic: Box<dyn Any + Send>) -> String {
     }
 }
 
+/// Calls the Rust and nothing else: the record is the caller's to start and finish.
+pub fn run_bare(call: &Call, read: &mut [u8]) -> (u8, u16) {
+    CHIPS[call.chip as usize](call, read)
+}
+
 /// Runs a call that has no added cause for a refusal.
 fn run_rust(call: &Call, record: Record, answers: Box<dyn Answers>, with_places: bool) -> Outcome {
     let mut read = call.read.clone();
     record::start(record, answers, with_places);
-    let result = catch_unwind(AssertUnwindSafe(|| CHIPS[call.chip as usize](call, &mut read)));
+    let result = catch_unwind(AssertUnwindSafe(|| run_bare(call, &mut read)));
     let (record, _) = record::finish();
     let (end, panic) = match result {
         Ok((end, value)) => (Some(end_number(end, value)), None),

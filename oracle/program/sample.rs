@@ -30,7 +30,15 @@ fn feature(parts: impl Hash) -> u64 {
 }
 
 fn length_class(length: usize) -> usize {
-    length.min(5)
+    length.min(4)
+}
+
+/// MHz: too few for `ch32v4`, its clamp, six bits, eight bits.
+fn clock_class(input: u32) -> usize {
+    [4, 60, 64, 256]
+        .iter()
+        .filter(|bound| input / 1_000_000 >= **bound)
+        .count()
 }
 
 /// The number of runs, and of operations, each up to 4.
@@ -46,18 +54,35 @@ fn features(call: &Call, outcome: &Outcome) -> Vec<u64> {
     let record = &outcome.record;
     let end = outcome.end.map(|end| end >> 8 & 0xff);
     let mut features = vec![feature((who, "end", end))];
-    let mut before = (0, 0);
+    let mut before = ((0, 0), 0);
     for (place, access) in record.places.iter().zip(&record.accesses) {
-        features.push(feature((who, "line", place, access & 0xff)));
-        features.push(feature((who, "way", before, place)));
-        before = *place;
+        let here = (*place, access & 0xffff);
+        features.push(feature((who, "line", here)));
+        features.push(feature((who, "way", before, here)));
+        before = here;
     }
     features.push(feature((who, "last", before, end)));
     let lengths = (length_class(call.written.len()), length_class(call.read.len()));
     features.push(feature((who, "kind", call.option, lengths, end)));
     features.push(feature((who, "list", shape(call), end)));
-    features.push(feature((who, "flags", call.duty, call.ten_bit, call.has_second, call.general_call, call.clock_stretching, end)));
-    features.push(feature((who, "clocks", call.frequency > 100_000, (call.input / 1_000_000).min(64), end == Some(0))));
+    features.push(feature((
+        who,
+        "flags",
+        call.duty,
+        call.ten_bit,
+        call.has_second,
+        call.general_call,
+        call.clock_stretching,
+        end,
+    )));
+    features.push(feature((
+        who,
+        "clocks",
+        call.frequency > 100_000,
+        call.duty,
+        clock_class(call.input),
+        end,
+    )));
     for answer in &record.answers {
         // Which error flags met.
         features.push(feature((who, "errors", answer & 0x5f00, end)));

@@ -39,7 +39,11 @@ fn put_record(bytes: &mut Vec<u8>, record: &Record) {
     let mut answers = record.answers.iter();
     for access in &record.accesses {
         let code = (kind(*access) << 4 | register(*access)) as u8;
-        let word = if kind(*access) == WRITE { Some(value(*access) as u16) } else { answers.next().copied() };
+        let word = if kind(*access) == WRITE {
+            Some(value(*access) as u16)
+        } else {
+            answers.next().copied()
+        };
         match word {
             Some(word) => {
                 bytes.push(code);
@@ -89,7 +93,10 @@ impl<'a> Cursor<'a> {
     }
 
     fn number(&mut self, count: usize) -> u32 {
-        self.take(count).iter().rev().fold(0, |number, byte| number << 8 | *byte as u32)
+        self.take(count)
+            .iter()
+            .rev()
+            .fold(0, |number, byte| number << 8 | *byte as u32)
     }
 }
 

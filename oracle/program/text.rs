@@ -18,7 +18,10 @@ pub fn from_hex(text: &str) -> Option<Vec<u8>> {
     if text.len() % 2 != 0 {
         return None;
     }
-    (0..text.len()).step_by(2).map(|i| u8::from_str_radix(text.get(i..i + 2)?, 16).ok()).collect()
+    (0..text.len())
+        .step_by(2)
+        .map(|i| u8::from_str_radix(text.get(i..i + 2)?, 16).ok())
+        .collect()
 }
 
 /// The whole call with its answers, in one line.
@@ -74,7 +77,12 @@ pub fn parse_call(line: &str) -> Result<(Call, Vec<u16>), String> {
             "list" => call.list = bytes()?,
             "written" => call.written = bytes()?,
             "read" => call.read = bytes()?,
-            "answers" => answers = bytes()?.chunks_exact(2).map(|a| u16::from_be_bytes([a[0], a[1]])).collect(),
+            "answers" => {
+                answers = bytes()?
+                    .chunks_exact(2)
+                    .map(|a| u16::from_be_bytes([a[0], a[1]]))
+                    .collect()
+            }
             _ => return Err(field.into()),
         }
     }
@@ -88,7 +96,11 @@ pub fn access_line(access: u32, answer: Option<u16>) -> String {
         READ => ("r", REGISTER_NAMES[register(access) as usize]),
         _ => ("w", REGISTER_NAMES[register(access) as usize]),
     };
-    let shown = if letter == "w" { Some(value(access) as u16) } else { answer };
+    let shown = if letter == "w" {
+        Some(value(access) as u16)
+    } else {
+        answer
+    };
     match shown {
         Some(word) => format!("{letter},{name},{word:04x}"),
         None => format!("{letter},{name}"),
@@ -107,7 +119,11 @@ pub fn number_text(number: u64) -> String {
 /// How many of the bytes read have arrived.
 pub fn arrived(outcome: &Outcome) -> usize {
     let record = &outcome.record;
-    let asked = record.accesses.iter().filter(|a| kind(**a) == READ && register(**a) == record::DATAR).count();
+    let asked = record
+        .accesses
+        .iter()
+        .filter(|a| kind(**a) == READ && register(**a) == record::DATAR)
+        .count();
     let owed = record.open && record.accesses.last() == Some(&record::read_of(record::DATAR));
     (asked - owed as usize).min(outcome.read.len())
 }
@@ -118,7 +134,11 @@ pub fn record_text(outcome: &Outcome) -> String {
     let mut answers = record.answers.iter();
     let mut text = String::new();
     for access in &record.accesses {
-        let answer = if kind(*access) == record::WRITE { None } else { answers.next() };
+        let answer = if kind(*access) == record::WRITE {
+            None
+        } else {
+            answers.next()
+        };
         if kind(*access) == record::WRITE || answer.is_some() {
             writeln!(text, "{}", access_line(*access, answer.copied())).unwrap();
         }
