@@ -58,7 +58,7 @@ $(ORACLE)/speed: $(ORACLE)/liboracle.rlib $(CH32_LIB)
 	$(RUST) --extern record=$(ORACLE)/librecord.rlib --extern oracle=$(ORACLE)/liboracle.rlib \
 	  -C link-arg=$(CH32_LIB) --crate-name speed -o $@ oracle/program/speed.rs
 
-.PHONY: speed compare compare-faults sample oracle-check
+.PHONY: speed compare compare-faults sample oracle-check replay-c compare-bench
 
 # The carried Rust and the C library on the same calls: CALLS of each entry on each chip.
 compare: $(ORACLE)/compare
@@ -85,8 +85,25 @@ compare-faults: $(FAULT_RESULTS)
 
 # The stored sample, chosen anew.
 SAMPLE ?= oracle/sample.bin
+SAMPLE_DETAIL ?= ways
 sample: $(ORACLE)/oracle
-	$(ORACLE)/oracle sample $(SAMPLE) $(SEED) 3000
+	$(ORACLE)/oracle sample $(SAMPLE) $(SEED) 3000 $(SAMPLE_DETAIL)
+
+# The stored sample, run by a C program.
+CH32_INCLUDE ?= include
+$(ORACLE)/replay: oracle/replay.c $(CH32_LIB)
+	@mkdir -p $(ORACLE)
+	$(CC) -std=c99 -O2 -Wall -Wextra -I$(CH32_INCLUDE) -o $@ $< $(CH32_LIB)
+
+replay-c: $(ORACLE)/replay
+	$(ORACLE)/replay $(SAMPLE)
+
+# The bench program BENCH on random transactions, beside the Rust.
+compare-bench: $(ORACLE)/oracle
+	@rm -rf $(ORACLE)/bench && $(ORACLE)/oracle bench-cases $(ORACLE)/bench $(SEED) 2000
+	@for case in $(ORACLE)/bench/*.in; do \
+	  $(BENCH) < $$case | cmp -s - $${case%.in}.out || { echo "differs: $$case"; exit 1; }; \
+	done; echo "$$(ls $(ORACLE)/bench/*.in | wc -l) bench inputs, 0 differences"
 
 # The oracle by itself: the carried files are the originals where these are at hand, document 01's example, the sample.
 ORIGINALS ?= ../shared/docs/src

@@ -47,3 +47,27 @@ pub fn run(input: &str) -> String {
     let source = Box::new(Given { answers, used: 0 });
     text::record_text(&rust::run(&call, Record::default(), source, false))
 }
+
+/// The bench input of a transaction, if it can be said in one: a chip that exists, a sound list, not too long.
+pub fn input_of(call: &Call, answers: &[u16]) -> Option<String> {
+    let is_sound = call.list.len() % 3 == 0 && call.operations().all(|(direction, _)| direction < 2);
+    if call.chip > 3 || !is_sound || answers.len() > 4096 {
+        return None;
+    }
+    let mut input = format!("T,{},{:02x}\n", call.chip, call.address);
+    let mut written = &call.written[..];
+    for (direction, length) in call.operations() {
+        if direction == 1 {
+            input += &format!("R,{length:04x}\n");
+        } else {
+            let (part, rest) = written.split_at_checked(length)?;
+            input += &format!("W,{}\n", text::hex(part));
+            written = rest;
+        }
+    }
+    for line in answers.chunks(16) {
+        let words: Vec<String> = line.iter().map(|answer| format!("{answer:04x}")).collect();
+        input += &format!("A,{}\n", words.join(","));
+    }
+    (input.len() <= 65_536).then_some(input)
+}

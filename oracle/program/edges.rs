@@ -45,7 +45,8 @@ pub fn transaction(chip: u8, operations: &[(bool, u16)]) -> Call {
         let [low, high] = length.to_le_bytes();
         call.list.extend([*reads as u8, low, high]);
         let bytes = if *reads { &mut call.read } else { &mut call.written };
-        bytes.resize(bytes.len() + *length as usize, 0);
+        // Past this the list is refused with 8, whatever is lent.
+        bytes.resize((bytes.len() + *length as usize).min(65_536), 0);
     }
     call
 }

@@ -3,7 +3,8 @@
 //!     oracle bench    document 01's bench input from standard input, as the Rust runs it
 //!     oracle lines    calls from standard input, one line each, with their records
 //!     oracle calls SEED COUNT [ENTRY [CHIP]]    random calls as lines
-//!     oracle sample FILE SEED TRIES    chooses the sample and writes it
+//!     oracle sample FILE SEED TRIES lines|ways    chooses the sample and writes it
+//!     oracle bench-cases DIRECTORY SEED COUNT    bench inputs with what the Rust makes of them
 //!     oracle check FILE    runs a sample's calls again
 //!     oracle panics SEED COUNT    bus settings that are refused with 10, 11 or 12, given to the Rust all the same
 
@@ -13,7 +14,7 @@ use std::panic::{catch_unwind, AssertUnwindSafe};
 use std::process::exit;
 
 use oracle::generate::{Generator, Sizes};
-use oracle::sample::Chosen;
+use oracle::sample::{Chosen, Detail};
 use oracle::{bench, causes, coverage, rust, sample, sample_file, text};
 use record::{Entry, Given, NoAnswers, OutOfAnswers, Place, Record, ENTRIES};
 
@@ -82,8 +83,8 @@ fn missing(chosen: &[Chosen]) -> Vec<String> {
     missing
 }
 
-fn write_sample(path: &str, seed: u64, tries: u64) {
-    let chosen = sample::sample(seed, tries);
+fn write_sample(path: &str, seed: u64, tries: u64, detail: Detail) {
+    let chosen = sample::sample(seed, tries, detail);
     let bytes = sample::file(&chosen);
     std::fs::write(path, &bytes).expect("the sample can be written");
     for entry in ENTRIES {
@@ -101,6 +102,23 @@ fn write_sample(path: &str, seed: u64, tries: u64) {
     missing.iter().for_each(|text| println!("missing: {text}"));
     if !missing.is_empty() {
         exit(1);
+    }
+}
+
+/// Writes N.in and N.out for random transactions that the bench program can be given.
+fn bench_cases(directory: &str, seed: u64, count: u64) {
+    std::fs::create_dir_all(directory).expect("the directory can be made");
+    for number in 0..count {
+        let chip = (number % 4) as u8;
+        let mut generator = Generator::new(seed, Entry::Transaction, chip, number, Sizes::All);
+        let (call, answers) = generator.call(Entry::Transaction, chip);
+        let outcome = rust::run(&call, Record::default(), answers, false);
+        let mut answers = outcome.record.answers;
+        answers.extend((0..generator.random.below(3)).map(|_| generator.random.word()));
+        if let Some(input) = bench::input_of(&call, &answers) {
+            std::fs::write(format!("{directory}/{number}.out"), bench::run(&input)).expect("written");
+            std::fs::write(format!("{directory}/{number}.in"), input).expect("written");
+        }
     }
 }
 
@@ -162,7 +180,9 @@ fn main() {
         ["calls", seed, count, entry, chip] => {
             calls(number(seed), number(count), &[named(entry)], &[number(chip) as u8 & 3])
         }
-        ["sample", path, seed, tries] => write_sample(path, number(seed), number(tries)),
+        ["sample", path, seed, tries, "lines"] => write_sample(path, number(seed), number(tries), Detail::Lines),
+        ["sample", path, seed, tries, "ways"] => write_sample(path, number(seed), number(tries), Detail::Ways),
+        ["bench-cases", directory, seed, count] => bench_cases(directory, number(seed), number(count)),
         ["panics", seed, count] => panics(number(seed), number(count)),
         ["check", path] => check_sample(path),
         _ => usage(),

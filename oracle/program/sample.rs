@@ -48,51 +48,62 @@ fn shape(call: &Call) -> (usize, usize) {
     (changes.min(4), directions.len().min(4))
 }
 
-/// What a call shows: each access line, each way from one to the next, the end, and the kind of its parameters.
-fn features(call: &Call, outcome: &Outcome) -> Vec<u64> {
+/// How much the sample is to show.
+#[derive(Copy, Clone, PartialEq, Eq)]
+pub enum Detail {
+    /// Each access line and each end.
+    Lines,
+    /// Also each way from one line to the next, the sets of error flags, and the kinds of parameters.
+    Ways,
+}
+
+/// The ways from one access to the next, the sets of error flags, the kind of the parameters.
+fn ways(call: &Call, outcome: &Outcome) -> Vec<u64> {
     let who = (call.entry as u8, call.chip);
     let record = &outcome.record;
     let end = outcome.end.map(|end| end >> 8 & 0xff);
-    let mut features = vec![feature((who, "end", end))];
+    let lengths = (length_class(call.written.len()), length_class(call.read.len()));
+    let flags = [call.ten_bit, call.has_second, call.general_call, call.clock_stretching];
+    let clocks = (call.frequency > 100_000, call.duty, clock_class(call.input));
+    let mut features = vec![
+        feature((who, "kind", call.option, lengths, end)),
+        feature((who, "list", shape(call), end)),
+        feature((who, "flags", flags, end)),
+        feature((who, "clocks", clocks, end)),
+    ];
     let mut before = ((0, 0), 0);
     for (place, access) in record.places.iter().zip(&record.accesses) {
         let here = (*place, access & 0xffff);
-        features.push(feature((who, "line", here)));
         features.push(feature((who, "way", before, here)));
         before = here;
     }
     features.push(feature((who, "last", before, end)));
-    let lengths = (length_class(call.written.len()), length_class(call.read.len()));
-    features.push(feature((who, "kind", call.option, lengths, end)));
-    features.push(feature((who, "list", shape(call), end)));
-    features.push(feature((
-        who,
-        "flags",
-        call.duty,
-        call.ten_bit,
-        call.has_second,
-        call.general_call,
-        call.clock_stretching,
-        end,
-    )));
-    features.push(feature((
-        who,
-        "clocks",
-        call.frequency > 100_000,
-        call.duty,
-        clock_class(call.input),
-        end,
-    )));
-    for answer in &record.answers {
-        // Which error flags met.
-        features.push(feature((who, "errors", answer & 0x5f00, end)));
+    let errors = record
+        .answers
+        .iter()
+        .map(|answer| feature((who, "errors", answer & 0x5f00, end)));
+    features.extend(errors);
+    features
+}
+
+/// What a call shows.
+fn features(call: &Call, outcome: &Outcome, detail: Detail) -> Vec<u64> {
+    let who = (call.entry as u8, call.chip);
+    let record = &outcome.record;
+    let end = outcome.end.map(|end| end >> 8 & 0xff);
+    let mut features = vec![feature((who, "end", end))];
+    for (place, access) in record.places.iter().zip(&record.accesses) {
+        features.push(feature((who, "line", place, access & 0xffff)));
+    }
+    if detail == Detail::Ways {
+        features.extend(ways(call, outcome));
     }
     features.sort();
     features.dedup();
     features
 }
 
-fn choose(call: Call, answers: Box<dyn Answers>, random: &mut Random, fixed: bool) -> Chosen {
+fn choose(call: Call, answers: Box<dyn Answers>, random: &mut Random, detail: Detail) -> Chosen {
     let sampled = Sampled::new(call, random.byte(), random.byte());
     let outcome = rust::run(&sampled.call, Record::default(), answers, true);
     assert!(outcome.panic.is_none(), "the Rust panicked");
@@ -101,9 +112,9 @@ fn choose(call: Call, answers: Box<dyn Answers>, random: &mut Random, fixed: boo
         chip: sampled.call.chip,
         end: outcome.end.map(|end| (end >> 8) as u8),
         bytes: encode(&sampled, &outcome),
-        features: features(&sampled.call, &outcome),
+        features: features(&sampled.call, &outcome, detail),
         places: outcome.record.places,
-        fixed,
+        fixed: false,
     }
 }
 
@@ -135,19 +146,21 @@ fn prune(mut chosen: Vec<Chosen>, shown: &mut Shown) -> Vec<Chosen> {
 }
 
 /// The sample for a seed, from `tries` random calls of each entry on each chip.
-pub fn sample(seed: u64, tries: u64) -> Vec<Chosen> {
+pub fn sample(seed: u64, tries: u64, detail: Detail) -> Vec<Chosen> {
     let mut chosen = Vec::new();
     let mut shown = Shown::new();
     let mut random = Random::of(&[seed]);
     for (call, answers) in edges::all(&mut random) {
-        add(&mut chosen, &mut shown, choose(call, answers, &mut random, true));
+        let mut edge = choose(call, answers, &mut random, detail);
+        edge.fixed = true;
+        add(&mut chosen, &mut shown, edge);
     }
     for entry in ENTRIES {
         for chip in 0..4 {
             for number in 0..tries {
                 let (call, mut answers) = Generator::new(seed, entry, chip, number, Sizes::Small).call(entry, chip);
                 answers.mood.limit = answers.mood.limit.min(150);
-                add(&mut chosen, &mut shown, choose(call, answers, &mut random, false));
+                add(&mut chosen, &mut shown, choose(call, answers, &mut random, detail));
             }
         }
     }

@@ -7,7 +7,7 @@ use record::{kind, register, value, Call, Entry, CLOCK, READ, REGISTER_NAMES};
 
 use crate::rust::Outcome;
 
-fn hex(bytes: &[u8]) -> String {
+pub fn hex(bytes: &[u8]) -> String {
     bytes.iter().fold(String::new(), |mut text, byte| {
         write!(text, "{byte:02x}").unwrap();
         text

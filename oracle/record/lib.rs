@@ -156,20 +156,21 @@ impl Recorder {
 
 /// Out of answers the call is unwound. What its guards do on the way out is not part of it, and reads 0.
 fn ask(access: u32, caller: &Location<'_>) -> u16 {
-    let was_open = RECORDER.with_borrow(|r| r.record.open);
-    if was_open {
-        return 0;
-    }
-    let answer = RECORDER.with_borrow_mut(|r| r.ask(access, caller));
+    let answer = RECORDER.with_borrow_mut(|r| match r.record.open {
+        true => Some(0),
+        false => r.ask(access, caller),
+    });
     answer.unwrap_or_else(|| std::panic::resume_unwind(Box::new(OutOfAnswers)))
 }
 
 /// A register read, which takes the next answer.
+#[inline(never)]
 pub fn read(register: u32, caller: &Location<'_>) -> u16 {
     ask(read_of(register), caller)
 }
 
 /// A register write.
+#[inline(never)]
 pub fn write(register: u32, value: u32, caller: &Location<'_>) {
     assert!(value <= 0xffff, "a register is a 16-bit word");
     RECORDER.with_borrow_mut(|r| {
@@ -180,6 +181,7 @@ pub fn write(register: u32, value: u32, caller: &Location<'_>) {
 }
 
 /// A question to the clock, which takes the next answer: 0 in time, other values late.
+#[inline(never)]
 pub fn clock(caller: &Location<'_>) -> u16 {
     ask(CLOCK, caller)
 }
