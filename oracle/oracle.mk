@@ -72,16 +72,30 @@ speed: $(ORACLE)/speed
 FAULTS = $(wildcard oracle/faults/*.patch)
 FAULT_RESULTS = $(FAULTS:oracle/faults/%.patch=$(ORACLE)/faults/%/result)
 
-$(FAULT_RESULTS): $(ORACLE)/faults/%/result: oracle/faults/%.patch $(HAL) $(PROGRAM) $(CH32_LIB)
+$(FAULT_RESULTS): $(ORACLE)/faults/%/result: oracle/faults/%.patch $(HAL) $(PROGRAM) $(ORACLE)/librecord.rlib $(SHIM_LIBS) $(CH32_LIB)
 	@rm -rf $(@D) && mkdir -p $(@D)/src && cp -r oracle/hal oracle/carried $(@D)/src
+	@cp -p $(ORACLE)/librecord.rlib $(SHIM_LIBS) $(@D)
 	@patch -s -p1 -d $(@D)/src < $<
 	@$(MAKE) -s --no-print-directory ORACLE=$(@D) ORACLE_SRC=$(@D)/src ORACLE_OPT=1 $(@D)/compare > $(@D)/log 2>&1
 	@$(@D)/compare until $(SEED) $(CALLS) > $@.new; echo "$*: $$(cat $@.new)"
 	@rm -rf $(@D)/src $(@D)/*.rlib $(@D)/compare && mv $@.new $@
 
-compare-faults: $(FAULT_RESULTS)
-	@grep -L '^found' $(FAULT_RESULTS); test -z "$$(grep -L '^found' $(FAULT_RESULTS))"
-	@echo "$(words $(FAULTS)) planted faults, all found"
+# Faults in the library, by functions that the linker puts before its own.
+LIBRARY_FAULTS = $(shell sed -n 's/^\#ifdef FAULT_//p' oracle/faults/library.c)
+LIBRARY_RESULTS = $(LIBRARY_FAULTS:%=$(ORACLE)/library-faults/%/result)
+WRAPPED = init_begin write_begin write_step read_step transaction_step listen_step
+WRAPS = $(WRAPPED:%=-C link-arg=-Wl,--wrap=ch32_i2c_%)
+
+$(LIBRARY_RESULTS): $(ORACLE)/library-faults/%/result: oracle/faults/library.c $(ORACLE)/liboracle.rlib $(CH32_LIB)
+	@mkdir -p $(@D) && $(CC) -O1 -DFAULT_$* -c -o $(@D)/fault.o $<
+	@$(RUST) --extern record=$(ORACLE)/librecord.rlib --extern oracle=$(ORACLE)/liboracle.rlib \
+	  -C link-arg=$(@D)/fault.o $(WRAPS) -C link-arg=$(CH32_LIB) --crate-name compare -o $(@D)/compare oracle/program/compare.rs
+	@$(@D)/compare until $(SEED) $(CALLS) > $@.new; echo "library, $*: $$(cat $@.new)"
+	@rm -f $(@D)/compare && mv $@.new $@
+
+compare-faults: $(FAULT_RESULTS) $(LIBRARY_RESULTS)
+	@grep -L '^found' $^; test -z "$$(grep -L '^found' $^)"
+	@echo "$(words $(FAULTS)) faults planted in the Rust and $(words $(LIBRARY_FAULTS)) in the library, all found"
 
 # The stored sample, chosen anew.
 SAMPLE ?= oracle/sample.bin

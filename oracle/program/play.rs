@@ -225,11 +225,22 @@ impl Player {
             "the written bytes were changed".into()
         })?;
         check(self.read.holds(&outcome.read), || {
-            format!("bytes read: the Rust {:02x?}", outcome.read)
+            read_differs(&outcome.read, &self.read)
         })?;
         let end = self.block.bytes.len() - GUARD;
         let guards = self.block.bytes[..GUARD] == [0xa5; GUARD] && self.block.bytes[end..] == [0x5a; GUARD];
         check(guards, || "bytes beside the block were changed".into())
+    }
+}
+
+fn read_differs(rust: &[u8], read: &Lent) -> String {
+    let library = &read.bytes[GUARD..read.bytes.len() - GUARD];
+    match rust.iter().zip(library).position(|(a, b)| a != b) {
+        None => "bytes beside the read buffer were changed".into(),
+        Some(i) => format!(
+            "byte {i} of the read buffer: the Rust {:02x}, the C library {:02x}",
+            rust[i], library[i]
+        ),
     }
 }
 
