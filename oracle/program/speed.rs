@@ -3,7 +3,7 @@
 //!     speed    the table, in markdown; instructions are counted by callgrind
 //!     speed run SIDE CALL TIMES    one call again and again, for callgrind
 //!
-//! The side `recording` makes the same accesses with no driver, so that its cost can be taken off.
+//! Counted are the instructions inside the driver: the C library's functions, or the Rust's without the recording.
 
 mod library;
 
@@ -47,16 +47,17 @@ fn carry_out(access: u32) -> u16 {
 
 #[derive(Copy, Clone, PartialEq)]
 enum Side {
-    Recording,
     Rust,
     Library,
 }
 
-const SIDES: [(&str, Side); 3] = [
-    ("recording", Side::Recording),
-    ("rust", Side::Rust),
-    ("library", Side::Library),
-];
+fn side_named(name: &str) -> Option<Side> {
+    match name {
+        "rust" => Some(Side::Rust),
+        "library" => Some(Side::Library),
+        _ => None,
+    }
+}
 
 /// A call with the accesses and answers of its good course.
 struct Course {
@@ -89,12 +90,6 @@ impl Course {
         }
     }
 
-    fn recording(&self) {
-        for access in &self.accesses {
-            carry_out(*access);
-        }
-    }
-
     fn library(&self, block: &mut [u8], read: &mut [u8]) {
         let call = &self.call;
         let mut next = library::begin(call, block, &call.list, &call.written, read);
@@ -118,7 +113,6 @@ impl Course {
         for _ in 0..times {
             record::start(record, answers, false);
             match side {
-                Side::Recording => self.recording(),
                 Side::Rust => {
                     rust::run_bare(&self.call, &mut read);
                 }
@@ -156,11 +150,12 @@ fn courses() -> Vec<Course> {
     ]
 }
 
-/// Instructions that callgrind counts for so many runs.
-fn counted(side: &str, course: usize, times: u64) -> u64 {
+/// Instructions that callgrind counts inside these functions, for so many runs.
+fn counted(side: &str, functions: &[String], course: usize, times: u64) -> u64 {
     let this = std::env::current_exe().expect("the program's own path");
     let output = Command::new("valgrind")
         .args(["--tool=callgrind", "--callgrind-out-file=/dev/null"])
+        .args(functions.iter().map(|function| format!("--toggle-collect={function}")))
         .arg(this)
         .args(["run", side, &course.to_string(), &times.to_string()])
         .output()
@@ -176,11 +171,23 @@ fn counted(side: &str, course: usize, times: u64) -> u64 {
         .expect("a number")
 }
 
-/// Instructions for each access: more runs less fewer, so that the program's start does not count.
-fn instructions(side: &str, index: usize, course: &Course) -> f64 {
+/// Instructions inside these functions for each access: more runs less fewer, so that the program's start does not count.
+fn inside(side: &str, functions: &[&str], index: usize, course: &Course) -> f64 {
+    let functions: Vec<String> = functions.iter().map(|function| function.to_string()).collect();
     let times = (20_000 / course.accesses.len() as u64).max(2);
-    let more = counted(side, index, 2 * times) - counted(side, index, times);
+    let more = counted(side, &functions, index, 2 * times) - counted(side, &functions, index, times);
     more as f64 / (times * course.accesses.len() as u64) as f64
+}
+
+fn rust_instructions(index: usize, course: &Course) -> f64 {
+    let recording = ["record::read", "record::write", "record::clock"];
+    inside("rust", &["*doors::run"], index, course) - inside("rust", &recording, index, course)
+}
+
+fn library_instructions(index: usize, course: &Course) -> f64 {
+    let name = course.call.entry.name();
+    let (begin, step) = (format!("ch32_i2c_{name}_begin"), format!("ch32_i2c_{name}_step"));
+    inside("library", &[&begin, &step], index, course)
 }
 
 /// Millions of accesses in a second.
@@ -196,18 +203,20 @@ fn goal(operations: usize) -> usize {
 }
 
 fn table() {
-    println!("Instructions for each access by callgrind, with the recording's own taken off; millions of accesses in a second, recording included.");
+    println!(
+        "Instructions for each access, by callgrind: inside the C library's functions, and inside the Rust without the"
+    );
+    println!("recording. Millions of accesses in a second: with the recording, which costs both the same.");
     println!();
-    println!("| call | accesses | recording | the Rust | C library | goal | the Rust, M/s | C library, M/s |");
-    println!("|---|---|---|---|---|---|---|---|");
+    println!("| call | accesses | the Rust | C library | goal | the Rust, M/s | C library, M/s |");
+    println!("|---|---|---|---|---|---|---|");
     for (index, course) in courses().iter().enumerate() {
-        let [recording, rust, library] = SIDES.map(|(name, _)| instructions(name, index, course));
         println!(
-            "| {} | {} | {recording:.1} | {:.1} | {:.1} | {} | {:.1} | {:.1} |",
+            "| {} | {} | {:.1} | {:.1} | {} | {:.1} | {:.1} |",
             course.name,
             course.accesses.len(),
-            rust - recording,
-            library - recording,
+            rust_instructions(index, course),
+            library_instructions(index, course),
             goal(course.operations),
             rate(Side::Rust, course),
             rate(Side::Library, course)
@@ -221,7 +230,7 @@ fn main() {
     match arguments[..] {
         [] => table(),
         ["run", side, course, times] => {
-            let side = SIDES.iter().find(|(name, _)| *name == side).expect("a side").1;
+            let side = side_named(side).expect("rust or library");
             let course: usize = course.parse().expect("the number of a call");
             courses()[course].run(side, times.parse().expect("how many times"));
         }
