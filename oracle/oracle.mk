@@ -127,4 +127,5 @@ oracle-check: $(ORACLE)/oracle
 	done
 	$(ORACLE)/oracle bench < oracle/example.txt | cmp - oracle/example.expected
 	$(ORACLE)/oracle check $(SAMPLE)
+	$(ORACLE)/oracle document
 	$(ORACLE)/oracle panics $(SEED) 20000

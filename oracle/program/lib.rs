@@ -4,6 +4,7 @@ pub mod answers;
 pub mod bench;
 pub mod causes;
 pub mod coverage;
+pub mod document;
 pub mod edges;
 pub mod generate;
 pub mod random;

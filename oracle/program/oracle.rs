@@ -6,6 +6,7 @@
 //!     oracle sample FILE SEED TRIES lines|ways    chooses the sample and writes it
 //!     oracle bench-cases DIRECTORY SEED COUNT    bench inputs with what the Rust makes of them
 //!     oracle check FILE    runs a sample's calls again
+//!     oracle document    document 01's edges, looked up in what the Rust does
 //!     oracle panics SEED COUNT    bus settings that are refused with 10, 11 or 12, given to the Rust all the same
 
 use std::collections::HashSet;
@@ -15,7 +16,7 @@ use std::process::exit;
 
 use oracle::generate::{Generator, Sizes};
 use oracle::sample::{Chosen, Detail};
-use oracle::{bench, causes, coverage, rust, sample, sample_file, text};
+use oracle::{bench, causes, coverage, document, rust, sample, sample_file, text};
 use record::{Entry, Given, NoAnswers, OutOfAnswers, Place, Record, ENTRIES};
 
 fn input() -> String {
@@ -144,6 +145,15 @@ fn check_sample(path: &str) {
     println!("{} calls of the sample, all as the Rust runs them", calls.len());
 }
 
+fn check_document() {
+    let differences = document::differences();
+    differences.iter().for_each(|difference| println!("{difference}"));
+    if !differences.is_empty() {
+        exit(1);
+    }
+    println!("document 01's edges: all as the Rust has them");
+}
+
 /// The Rust has to panic, before any access, at every setting that `causes` refuses with 10, 11 or 12.
 fn panics(seed: u64, count: u64) {
     let mut refused = [0; 3];
@@ -183,6 +193,7 @@ fn main() {
         ["sample", path, seed, tries, "lines"] => write_sample(path, number(seed), number(tries), Detail::Lines),
         ["sample", path, seed, tries, "ways"] => write_sample(path, number(seed), number(tries), Detail::Ways),
         ["bench-cases", directory, seed, count] => bench_cases(directory, number(seed), number(count)),
+        ["document"] => check_document(),
         ["panics", seed, count] => panics(number(seed), number(count)),
         ["check", path] => check_sample(path),
         _ => usage(),
@@ -194,6 +205,6 @@ fn named(entry: &str) -> Entry {
 }
 
 fn usage() -> ! {
-    println!("oracle bench | lines | calls SEED COUNT [ENTRY [CHIP]] | sample FILE SEED TRIES | check FILE | panics SEED COUNT");
+    println!("oracle bench | lines | calls SEED COUNT [ENTRY [CHIP]] | sample FILE SEED TRIES | check FILE | document | panics SEED COUNT");
     exit(2)
 }

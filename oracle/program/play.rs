@@ -105,8 +105,8 @@ impl Player {
     ) -> Result<u64, String> {
         let accesses = &outcome.record.accesses;
         let mut answers = outcome.record.answers.iter();
-        // Now and then a bad step is offered in between.
-        let bad_step_at = if random.one_in(8) {
+        // Now and then something happens in between.
+        let disturb_at = if random.one_in(8) {
             random.below(accesses.len() as u64 + 1) as usize
         } else {
             usize::MAX
@@ -116,8 +116,8 @@ impl Player {
             check(number == *access as u64, || {
                 differs(&format!("access {place}"), *access as u64, number)
             })?;
-            if place == bad_step_at {
-                self.bad_step(call, random)?;
+            if place == disturb_at {
+                self.disturb(call, random)?;
             }
             // After a write the answer is ignored.
             let answer = if kind(*access) == WRITE {
@@ -164,16 +164,38 @@ impl Player {
         self.check_kept(what)
     }
 
-    /// A step with another call's function, a block cut short, or bytes that begin would refuse.
-    fn bad_step(&mut self, call: &Call, random: &mut Random) -> Result<(), String> {
-        match random.below(3) {
+    /// A step with another call's function, a block cut short, or bytes that begin would refuse; or something that
+    /// must not matter.
+    fn disturb(&mut self, call: &Call, random: &mut Random) -> Result<(), String> {
+        match random.below(4) {
             0 => {
                 let others: Vec<Entry> = ENTRIES.into_iter().filter(|entry| *entry != call.entry).collect();
                 self.refused_step(random.pick(&others), "a step of another entry", random)
             }
             1 => self.short_block(call, random),
-            _ => self.refused_bytes(call, random),
+            2 => self.refused_bytes(call, random),
+            _ => {
+                self.move_and_begin_another(call, random);
+                Ok(())
+            }
         }
+    }
+
+    /// Everything lent moves to other addresses, and the same call begins on another block.
+    fn move_and_begin_another(&mut self, call: &Call, random: &mut Random) {
+        for lent in [&mut self.block, &mut self.list, &mut self.written, &mut self.read] {
+            lent.bytes = lent.bytes.clone();
+        }
+        let (mut block, mut read) = (random.bytes(32), call.read.clone());
+        library::begin(call, &mut block, &call.list, &call.written, &mut read);
+        library::step(
+            call.entry,
+            &mut block,
+            &call.list,
+            &call.written,
+            &mut read,
+            random.word(),
+        );
     }
 
     fn short_block(&mut self, call: &Call, random: &mut Random) -> Result<(), String> {
