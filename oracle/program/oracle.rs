@@ -11,13 +11,12 @@
 
 use std::collections::HashSet;
 use std::io::Read;
-use std::panic::{catch_unwind, AssertUnwindSafe};
 use std::process::exit;
 
 use oracle::generate::{Generator, Sizes};
 use oracle::sample::{Chosen, Detail};
 use oracle::{bench, causes, coverage, document, rust, sample, sample_file, text};
-use record::{Entry, Given, NoAnswers, OutOfAnswers, Place, Record, ENTRIES};
+use record::{Entry, Given, NoAnswers, Place, Record, ENTRIES};
 
 fn input() -> String {
     let mut input = String::new();
@@ -154,7 +153,21 @@ fn check_document() {
     println!("document 01's edges: all as the Rust has them");
 }
 
-/// The Rust has to panic, before any access, at every setting that `causes` refuses with 10, 11 or 12.
+/// The number that stands for the assertion at which the Rust panicked.
+fn assertion_number(message: &str) -> Option<u8> {
+    let assertions = [
+        ("frequency.0 > 0", 10),
+        ("input_mhz >= 4", 12),
+        ("divider <= 0xfff", 11),
+    ];
+    assertions
+        .iter()
+        .find(|(text, _)| message.contains(text))
+        .map(|(_, number)| *number)
+}
+
+/// The Rust has to panic, before any access, at every setting that `causes` refuses with 10, 11 or 12, and at the
+/// assertion that this number stands for.
 fn panics(seed: u64, count: u64) {
     let mut refused = [0; 3];
     for chip in 0..4 {
@@ -162,19 +175,17 @@ fn panics(seed: u64, count: u64) {
             let (mut call, _) = Generator::new(seed, Entry::Init, chip, number, Sizes::All).call(Entry::Init, chip);
             (call.block_length, call.chip, call.duty) = (32, chip, call.duty & 1);
             let Some(cause) = causes::added(&call) else { continue };
-            record::start(Record::default(), Box::new(NoAnswers), false);
-            let result = catch_unwind(AssertUnwindSafe(|| rust::run_bare(&call, &mut [])));
-            let is_assertion = result.is_err_and(|panic| !panic.is::<OutOfAnswers>());
-            let (record, _) = record::finish();
-            if !is_assertion || !record.accesses.is_empty() {
-                println!("the Rust does not panic: {}", text::call_line(&call, &[]));
+            let outcome = rust::run_rust(&call, Record::default(), Box::new(NoAnswers), false);
+            let asserted = outcome.panic.as_deref().and_then(assertion_number);
+            if asserted != Some(cause) || !outcome.record.accesses.is_empty() {
+                println!("not refused with {cause} by the Rust: {}", text::call_line(&call, &[]));
                 exit(1);
             }
             refused[cause as usize - 10] += 1;
         }
     }
     let [ten, eleven, twelve] = refused;
-    println!("the Rust panics before any access at all of {ten} settings with 10, {eleven} with 11, {twelve} with 12");
+    println!("the Rust panics before any access, and for the same cause, at {ten} settings with 10, {eleven} with 11, {twelve} with 12");
 }
 
 fn main() {

@@ -45,8 +45,8 @@ pub fn run_bare(call: &Call, read: &mut [u8]) -> (u8, u16) {
     CHIPS[call.chip as usize](call, read)
 }
 
-/// Runs a call that has no added cause for a refusal.
-fn run_rust(call: &Call, record: Record, answers: Box<dyn Answers>, with_places: bool) -> Outcome {
+/// Runs a call on the Rust, without a look at the added causes.
+pub fn run_rust(call: &Call, record: Record, answers: Box<dyn Answers>, with_places: bool) -> Outcome {
     let mut read = call.read.clone();
     record::start(record, answers, with_places);
     let result = catch_unwind(AssertUnwindSafe(|| run_bare(call, &mut read)));
