@@ -43,20 +43,20 @@ $(SHIM_LIBS): $(ORACLE)/lib%.rlib: oracle/shims/%.rs
 $(CHIP_LIBS): $(ORACLE)/libchip%.rlib: $(ORACLE)/librecord.rlib $(SHIM_LIBS) $(HAL)
 	$(RLIB) $(EXTERNS) --cfg 'feature="embassy"' $(FLAGS_$*) --crate-name chip$* $(ORACLE_SRC)/hal/lib.rs
 
-$(ORACLE)/liboracle.rlib: $(CHIP_LIBS) $(PROGRAM)
-	$(RLIB) --extern record=$(ORACLE)/librecord.rlib $(CHIPS) --crate-name oracle oracle/program/lib.rs
+$(ORACLE)/liboracle.rlib: $(ORACLE)/librecord.rlib $(PROGRAM)
+	$(RLIB) --extern record=$(ORACLE)/librecord.rlib --crate-name oracle oracle/program/lib.rs
 
-$(ORACLE)/oracle: $(ORACLE)/liboracle.rlib
-	$(RUST) --extern record=$(ORACLE)/librecord.rlib --extern oracle=$(ORACLE)/liboracle.rlib \
-	  --crate-name oracle_program -o $@ oracle/program/oracle.rs
+# A program over the four chips; some are linked with the C library.
+BIN = $(RUST) --extern record=$(ORACLE)/librecord.rlib --extern oracle=$(ORACLE)/liboracle.rlib $(CHIPS)
 
-$(ORACLE)/compare: $(ORACLE)/liboracle.rlib $(CH32_LIB)
-	$(RUST) --extern record=$(ORACLE)/librecord.rlib --extern oracle=$(ORACLE)/liboracle.rlib \
-	  -C link-arg=$(CH32_LIB) --crate-name compare -o $@ oracle/program/compare.rs
+$(ORACLE)/oracle: $(ORACLE)/liboracle.rlib $(CHIP_LIBS)
+	$(BIN) --crate-name oracle_program -o $@ oracle/program/oracle.rs
 
-$(ORACLE)/speed: $(ORACLE)/liboracle.rlib $(CH32_LIB)
-	$(RUST) --extern record=$(ORACLE)/librecord.rlib --extern oracle=$(ORACLE)/liboracle.rlib \
-	  -C link-arg=$(CH32_LIB) --crate-name speed -o $@ oracle/program/speed.rs
+$(ORACLE)/compare: $(ORACLE)/liboracle.rlib $(CHIP_LIBS) $(CH32_LIB)
+	$(BIN) -C link-arg=$(CH32_LIB) --crate-name compare -o $@ oracle/program/compare.rs
+
+$(ORACLE)/speed: $(ORACLE)/liboracle.rlib $(CHIP_LIBS) $(CH32_LIB)
+	$(BIN) -C link-arg=$(CH32_LIB) --crate-name speed -o $@ oracle/program/speed.rs
 
 .PHONY: speed compare compare-faults sample oracle-check replay-c compare-bench
 
@@ -72,11 +72,11 @@ speed: $(ORACLE)/speed
 FAULTS = $(wildcard oracle/faults/*.patch)
 FAULT_RESULTS = $(FAULTS:oracle/faults/%.patch=$(ORACLE)/faults/%/result)
 
-$(FAULT_RESULTS): $(ORACLE)/faults/%/result: oracle/faults/%.patch $(HAL) $(PROGRAM) $(ORACLE)/librecord.rlib $(SHIM_LIBS) $(CH32_LIB)
+$(FAULT_RESULTS): $(ORACLE)/faults/%/result: oracle/faults/%.patch $(HAL) $(ORACLE)/liboracle.rlib $(SHIM_LIBS) $(CH32_LIB)
 	@rm -rf $(@D) && mkdir -p $(@D)/src && cp -r oracle/hal oracle/carried $(@D)/src
-	@cp -p $(ORACLE)/librecord.rlib $(SHIM_LIBS) $(@D)
+	@cp -p $(ORACLE)/librecord.rlib $(ORACLE)/liboracle.rlib $(SHIM_LIBS) $(@D)
 	@patch -s -p1 -d $(@D)/src < $<
-	@$(MAKE) -s --no-print-directory ORACLE=$(@D) ORACLE_SRC=$(@D)/src ORACLE_OPT=1 $(@D)/compare > $(@D)/log 2>&1
+	@$(MAKE) -s --no-print-directory ORACLE=$(@D) ORACLE_SRC=$(@D)/src ORACLE_OPT=0 $(@D)/compare > $(@D)/log 2>&1
 	@$(@D)/compare until $(SEED) $(CALLS) > $@.new; echo "$*: $$(cat $@.new)"
 	@rm -rf $(@D)/src $(@D)/*.rlib $(@D)/compare && mv $@.new $@
 
@@ -86,10 +86,9 @@ LIBRARY_RESULTS = $(LIBRARY_FAULTS:%=$(ORACLE)/library-faults/%/result)
 WRAPPED = init_begin write_begin write_step read_step transaction_step listen_step
 WRAPS = $(WRAPPED:%=-C link-arg=-Wl,--wrap=ch32_i2c_%)
 
-$(LIBRARY_RESULTS): $(ORACLE)/library-faults/%/result: oracle/faults/library.c $(ORACLE)/liboracle.rlib $(CH32_LIB)
+$(LIBRARY_RESULTS): $(ORACLE)/library-faults/%/result: oracle/faults/library.c $(ORACLE)/liboracle.rlib $(CHIP_LIBS) $(CH32_LIB)
 	@mkdir -p $(@D) && $(CC) -O1 -DFAULT_$* -c -o $(@D)/fault.o $<
-	@$(RUST) --extern record=$(ORACLE)/librecord.rlib --extern oracle=$(ORACLE)/liboracle.rlib \
-	  -C link-arg=$(@D)/fault.o $(WRAPS) -C link-arg=$(CH32_LIB) --crate-name compare -o $(@D)/compare oracle/program/compare.rs
+	@$(BIN) -C link-arg=$(@D)/fault.o $(WRAPS) -C link-arg=$(CH32_LIB) --crate-name compare -o $(@D)/compare oracle/program/compare.rs
 	@$(@D)/compare until $(SEED) $(CALLS) > $@.new; echo "library, $*: $$(cat $@.new)"
 	@rm -f $(@D)/compare && mv $@.new $@
 

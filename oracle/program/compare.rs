@@ -6,6 +6,7 @@
 //!     compare sample FILE    the stored sample
 //!     compare lines    calls from standard input, one line each (the form in which differences are printed)
 
+mod chips;
 mod library;
 mod play;
 
@@ -190,7 +191,7 @@ fn compare_sample(path: &str) {
 }
 
 fn main() {
-    rust::silence_panics();
+    rust::use_chips(chips::CHIPS);
     let arguments: Vec<String> = std::env::args().skip(1).collect();
     let arguments: Vec<&str> = arguments.iter().map(String::as_str).collect();
     let number = |text: &str| text.parse::<u64>().ok();

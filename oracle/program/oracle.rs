@@ -9,6 +9,8 @@
 //!     oracle document    document 01's edges, looked up in what the Rust does
 //!     oracle panics SEED COUNT    bus settings that are refused with 10, 11 or 12, given to the Rust all the same
 
+mod chips;
+
 use std::collections::HashSet;
 use std::io::Read;
 use std::process::exit;
@@ -189,7 +191,7 @@ fn panics(seed: u64, count: u64) {
 }
 
 fn main() {
-    rust::silence_panics();
+    rust::use_chips(chips::CHIPS);
     let arguments: Vec<String> = std::env::args().skip(1).collect();
     let arguments: Vec<&str> = arguments.iter().map(String::as_str).collect();
     let number = |text: &str| text.parse::<u64>().unwrap_or_else(|_| usage());

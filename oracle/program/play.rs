@@ -167,13 +167,18 @@ impl Player {
     /// A step with another call's function, a block cut short, or bytes that begin would refuse; or something that
     /// must not matter.
     fn disturb(&mut self, call: &Call, random: &mut Random) -> Result<(), String> {
-        match random.below(4) {
+        match random.below(5) {
             0 => {
                 let others: Vec<Entry> = ENTRIES.into_iter().filter(|entry| *entry != call.entry).collect();
                 self.refused_step(random.pick(&others), "a step of another entry", random)
             }
-            1 => self.short_block(call, random),
-            2 => self.refused_bytes(call, random),
+            1 => {
+                let length = random.below(32) as usize;
+                let short = self.block.part()[..length].to_vec();
+                self.bad_block(call, short, "a step with a short block", random)
+            }
+            2 => self.bad_block(call, random.bytes(32), "a step on random bytes", random),
+            3 => self.refused_bytes(call, random),
             _ => {
                 self.move_and_begin_another(call, random);
                 Ok(())
@@ -198,23 +203,16 @@ impl Player {
         );
     }
 
-    fn short_block(&mut self, call: &Call, random: &mut Random) -> Result<(), String> {
-        let length = random.below(32) as usize;
+    /// A step on another block, which is no image.
+    fn bad_block(&mut self, call: &Call, bad: Vec<u8>, what: &str, random: &mut Random) -> Result<(), String> {
+        let mut block = bad.clone();
         self.refused_steps += 1;
         self.keep();
         let (list, written, read) = (self.list.part(), self.written.part(), self.read.part());
-        let number = library::step(
-            call.entry,
-            &mut self.block.part()[..length],
-            list,
-            written,
-            read,
-            random.word(),
-        );
-        check(number == REFUSED_STEP, || {
-            differs("a step with a short block", REFUSED_STEP, number)
-        })?;
-        self.check_kept("a step with a short block")
+        let number = library::step(call.entry, &mut block, list, written, read, random.word());
+        check(number == REFUSED_STEP, || differs(what, REFUSED_STEP, number))?;
+        check(block == bad, || format!("{what} changed the block"))?;
+        self.check_kept(what)
     }
 
     fn refused_bytes(&mut self, call: &Call, random: &mut Random) -> Result<(), String> {

@@ -2,12 +2,22 @@
 
 use std::any::Any;
 use std::panic::{catch_unwind, AssertUnwindSafe};
+use std::sync::OnceLock;
 
 use record::{Answers, Call, Entry, OutOfAnswers, Record};
 
 use crate::causes;
 
-const CHIPS: [fn(&Call, &mut [u8]) -> (u8, u16); 4] = [chip0::run, chip1::run, chip2::run, chip3::run];
+/// The carried Rust, built for each chip.
+pub type Chips = [fn(&Call, &mut [u8]) -> (u8, u16); 4];
+
+static CHIPS: OnceLock<Chips> = OnceLock::new();
+
+/// Says which builds to run, once and first of all. Panics of the Rust are then kept quiet; `Outcome::panic` has them.
+pub fn use_chips(chips: Chips) {
+    CHIPS.get_or_init(|| chips);
+    std::panic::set_hook(Box::new(|_| {}))
+}
 
 /// What a call comes to: its record, its end as the C library's number (none for an open call) and the read bytes.
 pub struct Outcome {
@@ -28,11 +38,6 @@ impl Outcome {
     }
 }
 
-/// Keeps the panics of the Rust quiet; they are reported by `Outcome::panic`.
-pub fn silence_panics() {
-    std::panic::set_hook(Box::new(|_| {}))
-}
-
 fn message(panic: Box<dyn Any + Send>) -> String {
     match panic.downcast::<&str>() {
         Ok(text) => text.to_string(),
@@ -42,7 +47,7 @@ fn message(panic: Box<dyn Any + Send>) -> String {
 
 /// Calls the Rust and nothing else: the record is the caller's to start and finish.
 pub fn run_bare(call: &Call, read: &mut [u8]) -> (u8, u16) {
-    CHIPS[call.chip as usize](call, read)
+    CHIPS.get().expect("use_chips comes first")[call.chip as usize](call, read)
 }
 
 /// Runs a call on the Rust, without a look at the added causes.

@@ -5,6 +5,7 @@
 //!
 //! Counted are the instructions inside the driver: the C library's functions, or the Rust's without the recording.
 
+mod chips;
 mod library;
 
 use std::panic::Location;
@@ -225,6 +226,7 @@ fn table() {
 }
 
 fn main() {
+    rust::use_chips(chips::CHIPS);
     let arguments: Vec<String> = std::env::args().skip(1).collect();
     let arguments: Vec<&str> = arguments.iter().map(String::as_str).collect();
     match arguments[..] {
