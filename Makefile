@@ -8,3 +8,5 @@ test:
 # Until the C library exists: proves the bus settings and `init`, whose worked example is crates/timing/proofs/Examples.antt.
 demo:
 	rt check timing
+
+include oracle/oracle.mk

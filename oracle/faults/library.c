@@ -1,0 +1,110 @@
+/* Faults planted in the C library: the linker puts these functions before the library's own (--wrap). One is chosen by
+ * -DFAULT_name; the others pass everything on. */
+#include <stddef.h>
+#include <stdint.h>
+
+uint64_t __real_ch32_i2c_init_begin(uint8_t *, size_t, uint8_t, uint32_t, uint32_t, uint8_t);
+uint64_t __real_ch32_i2c_write_begin(uint8_t *, size_t, uint8_t, uint8_t, uint8_t, const uint8_t *, size_t);
+uint64_t __real_ch32_i2c_write_step(uint8_t *, size_t, const uint8_t *, size_t, uint16_t);
+uint64_t __real_ch32_i2c_read_step(uint8_t *, size_t, uint8_t *, size_t, uint16_t);
+uint64_t __real_ch32_i2c_transaction_step(uint8_t *, size_t, const uint8_t *, size_t, const uint8_t *, size_t, uint8_t *, size_t, uint16_t);
+uint64_t ch32_i2c_init_step(uint8_t *, size_t, uint16_t);
+uint64_t __real_ch32_i2c_listen_step(uint8_t *, size_t, uint16_t);
+
+#define REFUSED_STEP ((uint64_t)15 << 8)
+
+uint64_t __wrap_ch32_i2c_init_begin(uint8_t *block, size_t n, uint8_t chip, uint32_t input, uint32_t frequency, uint8_t duty)
+{
+#ifdef FAULT_block_of_33_accepted
+    if (n == 33)
+        n = 32;
+#endif
+    uint64_t next = __real_ch32_i2c_init_begin(block, n, chip, input, frequency, duty);
+#ifdef FAULT_refused_settings_change_the_block
+    if (n == 32 && (next & 0xff) == 0)
+        block[31] ^= 1;
+#endif
+    return next;
+}
+
+uint64_t __wrap_ch32_i2c_write_begin(uint8_t *block, size_t n, uint8_t chip, uint8_t address, uint8_t option,
+                                     const uint8_t *written, size_t length)
+{
+    uint64_t next = __real_ch32_i2c_write_begin(block, n, chip, address, option, written, length);
+#ifdef FAULT_refused_begin_changes_the_block
+    if (n == 32 && (next & 0xff) == 0 && next != 0)
+        block[0] ^= 0x80;
+#endif
+    return next;
+}
+
+uint64_t __wrap_ch32_i2c_write_step(uint8_t *block, size_t n, const uint8_t *written, size_t length, uint16_t answer)
+{
+    uint64_t next = __real_ch32_i2c_write_step(block, n, written, length, answer);
+#ifdef FAULT_end_repeated
+    if (n == 32 && next == REFUSED_STEP && length <= 65535)
+        return 0;
+#endif
+#ifdef FAULT_block_changed_after_the_end
+    if (n == 32 && next == REFUSED_STEP)
+        block[31] ^= 1;
+#endif
+#ifdef FAULT_high_bits_set
+    if ((next & 0xff) == 2)
+        next |= (uint64_t)1 << 32;
+#endif
+#ifdef FAULT_written_bytes_changed
+    if ((next & 0xff) == 0 && length > 0)
+        ((uint8_t *)written)[length - 1] ^= 1;
+#endif
+#ifdef FAULT_answer_after_a_write_used
+    static uint64_t last;
+    if ((last & 0xff) == 2 && answer == 0xffff)
+        next = REFUSED_STEP;
+    last = next;
+#endif
+    return next;
+}
+
+uint64_t __wrap_ch32_i2c_read_step(uint8_t *block, size_t n, uint8_t *read, size_t length, uint16_t answer)
+{
+    uint64_t next = __real_ch32_i2c_read_step(block, n, read, length, answer);
+#ifdef FAULT_byte_left_alone_cleared
+    if ((next & 0xff) == 0 && (next >> 8) != 0 && (next >> 8) < 15 && length > 0)
+        read[length - 1] = 0;
+#endif
+#ifdef FAULT_byte_past_the_buffer
+    if (next == 0)
+        read[length] = 0;
+#endif
+#ifdef FAULT_byte_before_the_block
+    if (next == 0)
+        block[-1] = 0;
+#endif
+    return next;
+}
+
+uint64_t __wrap_ch32_i2c_transaction_step(uint8_t *block, size_t n, const uint8_t *list, size_t list_length, const uint8_t *written,
+                                          size_t written_length, uint8_t *read, size_t read_length, uint16_t answer)
+{
+    uint64_t next = __real_ch32_i2c_transaction_step(block, n, list, list_length, written, written_length, read, read_length, answer);
+#ifdef FAULT_list_changed
+    if (next == 0 && list_length > 6)
+        ((uint8_t *)list)[list_length - 1] ^= 1;
+#endif
+#ifdef FAULT_arrived_byte_overwritten
+    if ((next & 0xff) == 0 && read_length > 2)
+        read[0] = read[1];
+#endif
+    return next;
+}
+
+uint64_t __wrap_ch32_i2c_listen_step(uint8_t *block, size_t n, uint16_t answer)
+{
+    uint64_t next = __real_ch32_i2c_listen_step(block, n, answer);
+#ifdef FAULT_step_of_another_entry_accepted
+    if (next == REFUSED_STEP)
+        next = ch32_i2c_init_step(block, n, answer);
+#endif
+    return next;
+}

@@ -1,0 +1,130 @@
+# The Rust as oracle: built with rustc alone, compared with the C library. See oracle/README.md.
+
+RUSTC ?= rustc
+CH32_LIB ?= target/lib/libch32_i2c.a
+ORACLE ?= target/oracle
+ORACLE_SRC ?= oracle
+CALLS ?= 100000
+SEED ?= 1
+
+ORACLE_OPT ?= 3
+RUST = MAKEFLAGS= $(RUSTC) --edition 2021 -C opt-level=$(ORACLE_OPT) -C codegen-units=1 -L $(ORACLE)
+RLIB = $(RUST) -C overflow-checks=on --crate-type rlib --out-dir $(ORACLE)
+SHIMS = critical_section embassy_time embassy_sync embassy_futures embedded_hal embedded_hal_async embassy_hal_internal
+SHIM_LIBS = $(SHIMS:%=$(ORACLE)/lib%.rlib)
+CHIP_LIBS = $(ORACLE)/libchip0.rlib $(ORACLE)/libchip1.rlib $(ORACLE)/libchip2.rlib $(ORACLE)/libchip3.rlib
+EXTERNS = $(foreach crate,record $(SHIMS),--extern $(crate)=$(ORACLE)/lib$(crate).rlib)
+CHIPS = $(foreach chip,0 1 2 3,--extern chip$(chip)=$(ORACLE)/libchip$(chip).rlib)
+CARRIED = $(wildcard $(ORACLE_SRC)/carried/src/*.rs $(ORACLE_SRC)/carried/src/i2c/*.rs)
+HAL = $(wildcard $(ORACLE_SRC)/hal/*.rs) $(CARRIED)
+PROGRAM = $(wildcard oracle/program/*.rs)
+
+FLAGS_0 =
+FLAGS_1 = --cfg i2c_v3
+FLAGS_2 = --cfg ch32v4
+FLAGS_3 = --cfg i2c_v3 --cfg ch32v4
+
+# The project's own archive is made by `make lib`, once: not again for each fault.
+ifeq ($(CH32_LIB)$(LIB_MADE),target/lib/libch32_i2c.a)
+$(CH32_LIB): lib ;
+endif
+
+$(ORACLE)/librecord.rlib: oracle/record/lib.rs oracle/record/call.rs
+	@mkdir -p $(ORACLE)
+	$(RLIB) --crate-name record $<
+
+$(ORACLE)/libembedded_hal_async.rlib: $(ORACLE)/libembedded_hal.rlib
+$(ORACLE)/libembedded_hal_async.rlib: SHIM_EXTERN = --extern embedded_hal=$(ORACLE)/libembedded_hal.rlib
+
+$(SHIM_LIBS): $(ORACLE)/lib%.rlib: oracle/shims/%.rs
+	@mkdir -p $(ORACLE)
+	$(RLIB) $(SHIM_EXTERN) --crate-name $* $<
+
+$(CHIP_LIBS): $(ORACLE)/libchip%.rlib: $(ORACLE)/librecord.rlib $(SHIM_LIBS) $(HAL)
+	$(RLIB) $(EXTERNS) --cfg 'feature="embassy"' $(FLAGS_$*) --crate-name chip$* $(ORACLE_SRC)/hal/lib.rs
+
+$(ORACLE)/liboracle.rlib: $(ORACLE)/librecord.rlib $(PROGRAM)
+	$(RLIB) --extern record=$(ORACLE)/librecord.rlib --crate-name oracle oracle/program/lib.rs
+
+# A program over the four chips; some are linked with the C library.
+BIN = $(RUST) --extern record=$(ORACLE)/librecord.rlib --extern oracle=$(ORACLE)/liboracle.rlib $(CHIPS)
+
+$(ORACLE)/oracle: $(ORACLE)/liboracle.rlib $(CHIP_LIBS)
+	$(BIN) --crate-name oracle_program -o $@ oracle/program/oracle.rs
+
+$(ORACLE)/compare: $(ORACLE)/liboracle.rlib $(CHIP_LIBS) $(CH32_LIB)
+	$(BIN) -C link-arg=$(CH32_LIB) --crate-name compare -o $@ oracle/program/compare.rs
+
+$(ORACLE)/speed: $(ORACLE)/liboracle.rlib $(CHIP_LIBS) $(CH32_LIB)
+	$(BIN) -C link-arg=$(CH32_LIB) --crate-name speed -o $@ oracle/program/speed.rs
+
+.PHONY: speed compare compare-faults sample oracle-check replay-c compare-bench
+
+# The carried Rust and the C library on the same calls: CALLS of each entry on each chip.
+compare: $(ORACLE)/compare
+	$(ORACLE)/compare $(SEED) $(CALLS)
+
+# Instructions and time for each access, the C library beside the Rust. Needs valgrind.
+speed: $(ORACLE)/speed
+	$(ORACLE)/speed
+
+# The comparison has to find each planted fault: an edit of a copy of the carried Rust.
+FAULTS = $(wildcard oracle/faults/*.patch)
+FAULT_RESULTS = $(FAULTS:oracle/faults/%.patch=$(ORACLE)/faults/%/result)
+
+$(FAULT_RESULTS): $(ORACLE)/faults/%/result: oracle/faults/%.patch $(HAL) $(ORACLE)/liboracle.rlib $(SHIM_LIBS) $(CH32_LIB)
+	@rm -rf $(@D) && mkdir -p $(@D)/src && cp -r oracle/hal oracle/carried $(@D)/src
+	@cp -p $(ORACLE)/librecord.rlib $(ORACLE)/liboracle.rlib $(SHIM_LIBS) $(@D)
+	@patch -s -p1 -d $(@D)/src < $<
+	@$(MAKE) -s --no-print-directory ORACLE=$(@D) ORACLE_SRC=$(@D)/src ORACLE_OPT=0 LIB_MADE=1 $(@D)/compare > $(@D)/log 2>&1
+	@$(@D)/compare until $(SEED) $(CALLS) > $@.new; echo "$*: $$(cat $@.new)"
+	@rm -rf $(@D)/src $(@D)/*.rlib $(@D)/compare && mv $@.new $@
+
+# Faults in the library, by functions that the linker puts before its own.
+LIBRARY_FAULTS = $(shell sed -n 's/^\#ifdef FAULT_//p' oracle/faults/library.c)
+LIBRARY_RESULTS = $(LIBRARY_FAULTS:%=$(ORACLE)/library-faults/%/result)
+WRAPPED = init_begin write_begin write_step read_step transaction_step listen_step
+WRAPS = $(WRAPPED:%=-C link-arg=-Wl,--wrap=ch32_i2c_%)
+
+$(LIBRARY_RESULTS): $(ORACLE)/library-faults/%/result: oracle/faults/library.c $(ORACLE)/liboracle.rlib $(CHIP_LIBS) $(CH32_LIB)
+	@mkdir -p $(@D) && $(CC) -O1 -DFAULT_$* -c -o $(@D)/fault.o $<
+	@$(BIN) -C link-arg=$(@D)/fault.o $(WRAPS) -C link-arg=$(CH32_LIB) --crate-name compare -o $(@D)/compare oracle/program/compare.rs
+	@$(@D)/compare until $(SEED) $(CALLS) > $@.new; echo "library, $*: $$(cat $@.new)"
+	@rm -f $(@D)/compare && mv $@.new $@
+
+compare-faults: $(FAULT_RESULTS) $(LIBRARY_RESULTS)
+	@grep -L '^found' $^; test -z "$$(grep -L '^found' $^)"
+	@echo "$(words $(FAULTS)) faults planted in the Rust and $(words $(LIBRARY_FAULTS)) in the library, all found"
+
+# The stored sample, chosen anew.
+SAMPLE ?= oracle/sample.bin
+SAMPLE_DETAIL ?= ways
+sample: $(ORACLE)/oracle
+	$(ORACLE)/oracle sample $(SAMPLE) $(SEED) 3000 $(SAMPLE_DETAIL)
+
+# The stored sample, run by a C program.
+CH32_INCLUDE ?= include
+$(ORACLE)/replay: oracle/replay.c $(CH32_LIB)
+	@mkdir -p $(ORACLE)
+	$(CC) -std=c99 -O2 -Wall -Wextra -I$(CH32_INCLUDE) -o $@ $< $(CH32_LIB)
+
+replay-c: $(ORACLE)/replay
+	$(ORACLE)/replay $(SAMPLE)
+
+# The bench program BENCH on random transactions, beside the Rust.
+compare-bench: $(ORACLE)/oracle
+	@rm -rf $(ORACLE)/bench && $(ORACLE)/oracle bench-cases $(ORACLE)/bench $(SEED) 2000
+	@for case in $(ORACLE)/bench/*.in; do \
+	  $(BENCH) < $$case | cmp -s - $${case%.in}.out || { echo "differs: $$case"; exit 1; }; \
+	done; echo "$$(ls $(ORACLE)/bench/*.in | wc -l) bench inputs, 0 differences"
+
+# The oracle by itself: the carried files are the originals where these are at hand, document 01's example, the sample.
+ORIGINALS ?= ../shared/docs/src
+oracle-check: $(ORACLE)/oracle
+	@for file in i2c.rs i2c/slave.rs time.rs; do \
+	  if [ -e $(ORIGINALS)/$$file ]; then cmp $(ORIGINALS)/$$file oracle/carried/src/$$file; fi || exit 1; \
+	done
+	$(ORACLE)/oracle bench < oracle/example.txt | cmp - oracle/example.expected
+	$(ORACLE)/oracle check $(SAMPLE)
+	$(ORACLE)/oracle document
+	$(ORACLE)/oracle panics $(SEED) 20000

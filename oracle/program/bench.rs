@@ -1,0 +1,73 @@
+//! Document 01's bench input, run on the Rust. Meant for well-formed input: a bad line is named, and that is all.
+
+use record::{Call, Entry, Given, Record};
+
+use crate::{rust, text};
+
+fn hex_number(text: &str) -> Option<u16> {
+    u16::from_str_radix(text, 16).ok()
+}
+
+fn read_line(call: &mut Call, answers: &mut Vec<u16>, line: &str) -> Option<()> {
+    let (letter, rest) = line.split_once(',')?;
+    let mut operation = |direction: u8, length: usize| {
+        call.list.extend([direction, length as u8, (length >> 8) as u8]);
+    };
+    match letter {
+        "T" => {
+            let (chip, address) = rest.split_once(',')?;
+            call.chip = chip.parse().ok()?;
+            call.address = hex_number(address)?;
+        }
+        "W" => {
+            let bytes = text::from_hex(rest)?;
+            operation(0, bytes.len());
+            call.written.extend(bytes);
+        }
+        "R" => {
+            let length = hex_number(rest)? as usize;
+            operation(1, length);
+            call.read.resize(call.read.len() + length, 0);
+        }
+        "A" => answers.extend(rest.split(',').map(hex_number).collect::<Option<Vec<u16>>>()?),
+        _ => return None,
+    }
+    Some(())
+}
+
+/// What the bench program prints for this input.
+pub fn run(input: &str) -> String {
+    let mut call = Call::new(Entry::Transaction);
+    let mut answers = Vec::new();
+    for (index, line) in input.lines().enumerate() {
+        if read_line(&mut call, &mut answers, line).is_none() {
+            return format!("bad,{}\n", index + 1);
+        }
+    }
+    let source = Box::new(Given { answers, used: 0 });
+    text::record_text(&rust::run(&call, Record::default(), source, false))
+}
+
+/// The bench input of a transaction, if it can be said in one: a chip that exists, a sound list, not too long.
+pub fn input_of(call: &Call, answers: &[u16]) -> Option<String> {
+    let is_sound = call.list.len() % 3 == 0 && call.operations().all(|(direction, _)| direction < 2);
+    if call.chip > 3 || !is_sound || answers.len() > 4096 {
+        return None;
+    }
+    let mut input = format!("T,{},{:02x}\n", call.chip, call.address);
+    let mut written = &call.written[..];
+    for (direction, length) in call.operations() {
+        if direction == 1 {
+            input += &format!("R,{length:04x}\n");
+        } else {
+            let (part, rest) = written.split_at_checked(length)?;
+            input += &format!("W,{}\n", text::hex(part));
+            written = rest;
+        }
+    }
+    for line in answers.chunks(16) {
+        let words: Vec<String> = line.iter().map(|answer| format!("{answer:04x}")).collect();
+        input += &format!("A,{}\n", words.join(","));
+    }
+    (input.len() <= 65_536).then_some(input)
+}

@@ -1,0 +1,229 @@
+//! `compare`: the carried Rust and the C library on the same calls.
+//!
+//!     compare SEED CALLS [ENTRY [CHIP]]    random calls, CALLS of each entry on each chip
+//!     compare until SEED CALLS    the same calls, all entries and chips by turns, up to the first difference
+//!     compare replay SEED ENTRY CHIP NUMBER    one of them again, with its whole record
+//!     compare sample FILE    the stored sample
+//!     compare lines    calls from standard input, one line each (the form in which differences are printed)
+
+mod chips;
+mod library;
+mod play;
+
+use std::io::BufRead;
+use std::process::exit;
+use std::time::Instant;
+
+use oracle::generate::{Generator, Sizes};
+use oracle::random::Random;
+use oracle::{rust, sample_file, text};
+use record::{Call, Entry, Given, Record, ENTRIES};
+use rust::Outcome;
+
+use play::Player;
+
+/// How often each end came: 0 to 16, and open calls last.
+#[derive(Default)]
+struct Tally {
+    ends: [u64; 18],
+    calls: u64,
+    accesses: u64,
+}
+
+impl Tally {
+    fn add(&mut self, outcome: &Outcome) {
+        let end = outcome.end.map_or(17, |end| (end >> 8 & 0xff) as usize);
+        self.ends[end] += 1;
+        self.calls += 1;
+        self.accesses += outcome.record.accesses.len() as u64;
+    }
+
+    fn ends_text(&self) -> String {
+        let counts = self.ends.iter().enumerate().filter(|(_, count)| **count > 0);
+        let named = counts.map(|(end, count)| match end {
+            17 => format!("open:{count}"),
+            _ => format!("{end}:{count}"),
+        });
+        named.collect::<Vec<_>>().join(" ")
+    }
+}
+
+fn report(call: &Call, outcome: &Outcome, difference: &str) {
+    println!("DIFFERENCE: {difference}");
+    println!("input: {}", text::call_line(call, &outcome.record.answers));
+    println!("the Rust:");
+    let shown = text::record_text(outcome);
+    let lines: Vec<&str> = shown.lines().collect();
+    if lines.len() > 400 {
+        println!("... {} lines, the last 400:", lines.len());
+    }
+    for line in &lines[lines.len().saturating_sub(400)..] {
+        println!("  {line}");
+    }
+}
+
+fn made_call(seed: u64, entry: Entry, chip: u8, number: u64, record: Record) -> (Call, Outcome, Random) {
+    let mut generator = Generator::new(seed, entry, chip, number, Sizes::All);
+    let (call, answers) = generator.call(entry, chip);
+    let outcome = rust::run(&call, record, answers, false);
+    (call, outcome, generator.random)
+}
+
+/// Compares the calls of one entry on one chip. `Err` holds the number of calls up to the first difference.
+fn compare(seed: u64, calls: u64, entry: Entry, chip: u8, player: &mut Player) -> Result<Tally, u64> {
+    let mut tally = Tally::default();
+    let mut record = Record::default();
+    for number in 0..calls {
+        let (call, outcome, mut random) = made_call(seed, entry, chip, number, record);
+        tally.add(&outcome);
+        if let Err(difference) = player.play(&call, &outcome, &mut random) {
+            report(&call, &outcome, &difference);
+            println!("again: compare replay {seed} {} {chip} {number}", entry.name());
+            return Err(number + 1);
+        }
+        record = outcome.record;
+    }
+    Ok(tally)
+}
+
+fn compare_all(seed: u64, calls: u64, entries: &[Entry], chips: &[u8]) {
+    let mut player = Player::default();
+    let mut total = Tally::default();
+    let began = Instant::now();
+    let mut done = 0;
+    for entry in entries {
+        for chip in chips {
+            match compare(seed, calls, *entry, *chip, &mut player) {
+                Ok(tally) => {
+                    println!(
+                        "{:16} chip {chip}: {} calls, {} accesses, 0 differences; ends {}",
+                        entry.name(),
+                        tally.calls,
+                        tally.accesses,
+                        tally.ends_text()
+                    );
+                    total.calls += tally.calls;
+                    total.accesses += tally.accesses;
+                }
+                Err(number) => {
+                    println!(
+                        "found after {} calls ({} of {} on chip {chip})",
+                        done + number,
+                        number,
+                        entry.name()
+                    );
+                    exit(1);
+                }
+            }
+            done += calls;
+        }
+    }
+    println!(
+        "{} calls, {} accesses, {} refused steps tried, 0 differences, {:.1} s",
+        total.calls,
+        total.accesses,
+        player.refused_steps,
+        began.elapsed().as_secs_f64()
+    );
+}
+
+/// All entries and chips by turns, up to the first difference.
+fn compare_until(seed: u64, calls: u64) {
+    let mut player = Player::default();
+    let mut count = 0u64;
+    for number in 0..calls {
+        for (entry, chip) in ENTRIES.iter().flat_map(|entry| [0, 1, 2, 3].map(|chip| (*entry, chip))) {
+            let (call, outcome, mut random) = made_call(seed, entry, chip, number, Record::default());
+            count += 1;
+            if let Err(difference) = player.play(&call, &outcome, &mut random) {
+                println!("found at call {count}, {} on chip {chip}: {difference}", entry.name());
+                exit(1);
+            }
+        }
+    }
+    println!("NOT FOUND in {count} calls");
+}
+
+fn replay(seed: u64, entry: Entry, chip: u8, number: u64) {
+    let (call, outcome, mut random) = made_call(seed, entry, chip, number, Record::default());
+    match Player::default().play(&call, &outcome, &mut random) {
+        Err(difference) => {
+            report(&call, &outcome, &difference);
+            exit(1);
+        }
+        Ok(()) => {
+            println!("{}", text::call_line(&call, &outcome.record.answers));
+            print!("{}", text::record_text(&outcome));
+            println!("no difference");
+        }
+    }
+}
+
+fn compare_lines() {
+    let mut player = Player::default();
+    let mut count = 0;
+    for line in std::io::stdin().lock().lines() {
+        let line = line.expect("standard input is text");
+        let (call, answers) = text::parse_call(line.trim_start_matches("input: ")).unwrap_or_else(|field| {
+            println!("not a call: {field}");
+            exit(2);
+        });
+        let outcome = rust::run(&call, Record::default(), Box::new(Given { answers, used: 0 }), false);
+        if let Err(difference) = player.play(&call, &outcome, &mut Random::of(&[count])) {
+            report(&call, &outcome, &difference);
+            exit(1);
+        }
+        count += 1;
+    }
+    println!("{count} calls, 0 differences");
+}
+
+fn compare_sample(path: &str) {
+    let calls = sample_file::decode(&std::fs::read(path).expect("the sample can be read"));
+    let mut player = Player::default();
+    for (number, (sampled, outcome)) in calls.iter().enumerate() {
+        if let Err(difference) = player.play(&sampled.call, outcome, &mut Random::of(&[number as u64])) {
+            report(&sampled.call, outcome, &difference);
+            exit(1);
+        }
+    }
+    println!("{} calls of the sample, 0 differences", calls.len());
+}
+
+fn main() {
+    rust::use_chips(chips::CHIPS);
+    let arguments: Vec<String> = std::env::args().skip(1).collect();
+    let arguments: Vec<&str> = arguments.iter().map(String::as_str).collect();
+    let number = |text: &str| text.parse::<u64>().ok();
+    match arguments[..] {
+        ["lines"] => compare_lines(),
+        ["sample", path] => compare_sample(path),
+        ["until", seed, calls] => match (number(seed), number(calls)) {
+            (Some(seed), Some(calls)) => compare_until(seed, calls),
+            _ => usage(),
+        },
+        ["replay", seed, entry, chip, n] => match (number(seed), Entry::named(entry), number(chip), number(n)) {
+            (Some(seed), Some(entry), Some(chip), Some(n)) => replay(seed, entry, chip as u8, n),
+            _ => usage(),
+        },
+        [seed, calls, ref rest @ ..] => match (number(seed), number(calls), chosen(rest)) {
+            (Some(seed), Some(calls), Some((entries, chips))) => compare_all(seed, calls, &entries, &chips),
+            _ => usage(),
+        },
+        _ => usage(),
+    }
+}
+
+fn chosen(rest: &[&str]) -> Option<(Vec<Entry>, Vec<u8>)> {
+    match rest {
+        [] => Some((ENTRIES.to_vec(), vec![0, 1, 2, 3])),
+        [entry] => Some((vec![Entry::named(entry)?], vec![0, 1, 2, 3])),
+        [entry, chip] => Some((vec![Entry::named(entry)?], vec![chip.parse().ok().filter(|c| *c < 4)?])),
+        _ => None,
+    }
+}
+
+fn usage() {
+    println!("compare SEED CALLS [ENTRY [CHIP]] | compare until SEED CALLS | compare replay SEED ENTRY CHIP NUMBER | compare sample FILE | compare lines");
+    exit(2);
+}

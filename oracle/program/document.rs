@@ -1,0 +1,58 @@
+//! Document 01's edges, as it gives them, looked up in what the Rust does. Answers are 0 where none are given.
+
+use record::{Given, Record};
+
+use crate::{rust, text};
+
+/// A call, and a line that document 01 says is in its record.
+const EDGES: [(&str, &str); 23] = [
+    ("entry=init input=36000000 frequency=100000", "w,CKCFGR,00b4"),
+    ("entry=init input=36000000 frequency=400000", "w,CKCFGR,801e"),
+    ("entry=init input=36000000 frequency=400000 duty=1", "w,CKCFGR,c004"),
+    ("entry=init input=81900000 frequency=10000", "w,CKCFGR,0fff"),
+    ("entry=init input=81900001 frequency=10000", "end,11,0"),
+    ("entry=init input=0 frequency=100000", "w,CKCFGR,0004"),
+    ("entry=init chip=2 input=0 frequency=100000", "end,12,0"),
+    ("entry=init input=36000000 frequency=400001", "end,10,0"),
+    ("entry=init chip=1 input=300000000 frequency=100000", "w,CTLR2,002c"),
+    ("entry=init chip=3 input=300000000 frequency=100000", "w,CTLR2,003c"),
+    ("entry=init_slave address=0 general_call=1", "w,OADDR1,4000"),
+    ("entry=init_slave address=0", "end,9,0"),
+    ("entry=init_slave ten_bit=1 address=1023", "w,OADDR1,c3ff"),
+    ("entry=init_slave address=85 has_second=1 second=3", "w,OADDR2,0007"),
+    ("entry=init_slave address=85", "w,OADDR2,0000"),
+    ("entry=write option=3 written=aa answers=0600", "end,2,4"),
+    ("entry=write option=3 written=aa answers=0600", "w,STAR1,f9ff"),
+    ("entry=write option=3 chip=2 written=aa answers=0100", "end,1,4"),
+    ("entry=write option=3 chip=0 written=aa answers=01800004", "end,0,2"),
+    // No STOP for one byte of `LastFrame`: POS, the error check, RXNE, the byte, STOP's fall, POS.
+    (
+        "entry=read option=4 read=00 answers=00000000004000aa00000000",
+        "end,0,6",
+    ),
+    ("entry=transaction", "end,0,0"),
+    ("entry=respond_to_read written=0102 answers=008000800400", "end,0,4"),
+    (
+        "entry=respond_to_read written=0102 answers=00800080001000000000",
+        "end,0,5,value 0001",
+    ),
+];
+
+/// The edges at which the Rust does something else.
+pub fn differences() -> Vec<String> {
+    let mut differences = Vec::new();
+    for (line, wanted) in EDGES {
+        let (call, mut answers) = text::parse_call(line).expect("a call");
+        answers.resize(40, 0);
+        let shown = text::record_text(&rust::run(
+            &call,
+            Record::default(),
+            Box::new(Given { answers, used: 0 }),
+            false,
+        ));
+        if !shown.lines().any(|line| line == wanted) {
+            differences.push(format!("{line}: not {wanted}, but\n{shown}"));
+        }
+    }
+    differences
+}

@@ -1,0 +1,273 @@
+//! Plays a call to the C library with the Rust's answers, and compares everything that can be seen.
+
+use oracle::random::Random;
+use oracle::rust::{end_number, Outcome};
+use oracle::text::number_text;
+use record::{kind, Call, Entry, ENTRIES, WRITE};
+
+use crate::library;
+
+const REFUSED_STEP: u64 = end_number(15, 0) as u64;
+const GUARD: usize = 16;
+
+/// Lent bytes with guard bytes on both sides.
+#[derive(Default)]
+struct Lent {
+    bytes: Vec<u8>,
+    before: Vec<u8>,
+}
+
+impl Lent {
+    fn fill(&mut self, bytes: &[u8]) {
+        self.bytes.clear();
+        self.bytes.extend([0xa5; GUARD]);
+        self.bytes.extend(bytes);
+        self.bytes.extend([0x5a; GUARD]);
+    }
+
+    fn part(&mut self) -> &mut [u8] {
+        let end = self.bytes.len() - GUARD;
+        &mut self.bytes[GUARD..end]
+    }
+
+    fn keep(&mut self) {
+        self.before.clone_from(&self.bytes);
+    }
+
+    fn is_kept(&self) -> bool {
+        self.before == self.bytes
+    }
+
+    /// The lent bytes are these, and the guards are as they were.
+    fn holds(&self, bytes: &[u8]) -> bool {
+        let end = self.bytes.len() - GUARD;
+        self.bytes[..GUARD] == [0xa5; GUARD] && self.bytes[end..] == [0x5a; GUARD] && self.bytes[GUARD..end] == *bytes
+    }
+}
+
+#[derive(Default)]
+pub struct Player {
+    block: Lent,
+    list: Lent,
+    written: Lent,
+    read: Lent,
+    /// Steps offered that had to be refused.
+    pub refused_steps: u64,
+}
+
+fn check(holds: bool, text: impl FnOnce() -> String) -> Result<(), String> {
+    if holds {
+        Ok(())
+    } else {
+        Err(text())
+    }
+}
+
+impl Player {
+    pub fn play(&mut self, call: &Call, outcome: &Outcome, random: &mut Random) -> Result<(), String> {
+        if let Some(message) = &outcome.panic {
+            return Err(format!("the Rust panicked: {message}"));
+        }
+        self.block.fill(&random.bytes(call.block_length));
+        self.list.fill(&call.list);
+        self.written.fill(&call.written);
+        self.read.fill(&call.read);
+        self.keep();
+        let first = library::begin(
+            call,
+            self.block.part(),
+            self.list.part(),
+            self.written.part(),
+            self.read.part(),
+        );
+        if outcome.is_refused() {
+            let end = outcome.end.unwrap_or(0) as u64;
+            check(first == end, || differs("begin", end, first))?;
+            return self.check_kept("a refused begin");
+        }
+        let last = self.play_accesses(call, outcome, random, first)?;
+        if let Some(end) = outcome.end {
+            check(last == end as u64, || differs("the end", end as u64, last))?;
+            for _ in 0..2 {
+                self.refused_step(call.entry, "a step after the end", random)?;
+            }
+        }
+        self.check_bytes(call, outcome)
+    }
+
+    /// Feeds the answers and compares each access. Hands back the number that follows the last of them.
+    fn play_accesses(
+        &mut self,
+        call: &Call,
+        outcome: &Outcome,
+        random: &mut Random,
+        first: u64,
+    ) -> Result<u64, String> {
+        let accesses = &outcome.record.accesses;
+        let mut answers = outcome.record.answers.iter();
+        // Now and then something happens in between.
+        let disturb_at = if random.one_in(8) {
+            random.below(accesses.len() as u64 + 1) as usize
+        } else {
+            usize::MAX
+        };
+        let mut number = first;
+        for (place, access) in accesses.iter().enumerate() {
+            check(number == *access as u64, || {
+                differs(&format!("access {place}"), *access as u64, number)
+            })?;
+            if place == disturb_at {
+                self.disturb(call, random)?;
+            }
+            // After a write the answer is ignored.
+            let answer = if kind(*access) == WRITE {
+                Some(random.word())
+            } else {
+                answers.next().copied()
+            };
+            let Some(answer) = answer else { break };
+            number = self.step(call.entry, answer);
+        }
+        Ok(number)
+    }
+
+    fn step(&mut self, entry: Entry, answer: u16) -> u64 {
+        let (block, list, written, read) = (&mut self.block, &mut self.list, &mut self.written, &mut self.read);
+        library::step(entry, block.part(), list.part(), written.part(), read.part(), answer)
+    }
+
+    fn keep(&mut self) {
+        for lent in [&mut self.block, &mut self.list, &mut self.written, &mut self.read] {
+            lent.keep();
+        }
+    }
+
+    fn check_kept(&self, what: &str) -> Result<(), String> {
+        let lent = [
+            ("block", &self.block),
+            ("list", &self.list),
+            ("written", &self.written),
+            ("read", &self.read),
+        ];
+        match lent.iter().find(|(_, lent)| !lent.is_kept()) {
+            None => Ok(()),
+            Some((name, _)) => Err(format!("{what} changed the bytes of {name}")),
+        }
+    }
+
+    /// A step that has to answer 15 and change nothing.
+    fn refused_step(&mut self, entry: Entry, what: &str, random: &mut Random) -> Result<(), String> {
+        self.refused_steps += 1;
+        self.keep();
+        let number = self.step(entry, random.word());
+        check(number == REFUSED_STEP, || differs(what, REFUSED_STEP, number))?;
+        self.check_kept(what)
+    }
+
+    /// A step with another call's function, a block cut short, or bytes that begin would refuse; or something that
+    /// must not matter.
+    fn disturb(&mut self, call: &Call, random: &mut Random) -> Result<(), String> {
+        match random.below(5) {
+            0 => {
+                let others: Vec<Entry> = ENTRIES.into_iter().filter(|entry| *entry != call.entry).collect();
+                self.refused_step(random.pick(&others), "a step of another entry", random)
+            }
+            1 => {
+                let length = random.below(32) as usize;
+                let short = self.block.part()[..length].to_vec();
+                self.bad_block(call, short, "a step with a short block", random)
+            }
+            2 => self.bad_block(call, random.bytes(32), "a step on random bytes", random),
+            3 => self.refused_bytes(call, random),
+            _ => {
+                self.move_and_begin_another(call, random);
+                Ok(())
+            }
+        }
+    }
+
+    /// Everything lent moves to other addresses, and the same call begins on another block.
+    fn move_and_begin_another(&mut self, call: &Call, random: &mut Random) {
+        for lent in [&mut self.block, &mut self.list, &mut self.written, &mut self.read] {
+            lent.bytes = lent.bytes.clone();
+        }
+        let (mut block, mut read) = (random.bytes(32), call.read.clone());
+        library::begin(call, &mut block, &call.list, &call.written, &mut read);
+        library::step(
+            call.entry,
+            &mut block,
+            &call.list,
+            &call.written,
+            &mut read,
+            random.word(),
+        );
+    }
+
+    /// A step on another block, which is no image.
+    fn bad_block(&mut self, call: &Call, bad: Vec<u8>, what: &str, random: &mut Random) -> Result<(), String> {
+        let mut block = bad.clone();
+        self.refused_steps += 1;
+        self.keep();
+        let (list, written, read) = (self.list.part(), self.written.part(), self.read.part());
+        let number = library::step(call.entry, &mut block, list, written, read, random.word());
+        check(number == REFUSED_STEP, || differs(what, REFUSED_STEP, number))?;
+        check(block == bad, || format!("{what} changed the block"))?;
+        self.check_kept(what)
+    }
+
+    fn refused_bytes(&mut self, call: &Call, random: &mut Random) -> Result<(), String> {
+        let what = "a step with bytes that begin would refuse";
+        let (mut list, mut written, mut read) = (call.list.clone(), call.written.clone(), call.read.clone());
+        match call.entry {
+            Entry::Init | Entry::InitSlave | Entry::Listen => return Ok(()),
+            Entry::Transaction => match random.below(4) {
+                0 => list.push(0),
+                1 => list[0] = 2,
+                2 => written.push(0),
+                _ => read.push(0),
+            },
+            Entry::WriteRead | Entry::Read if random.one_in(2) => read.clear(),
+            Entry::WriteRead | Entry::Write | Entry::RespondToRead => written.resize(65_536, 0),
+            Entry::Read | Entry::RespondToWrite => read.resize(65_536, 0),
+        }
+        let kept = read.clone();
+        self.refused_steps += 1;
+        self.keep();
+        let number = library::step(call.entry, self.block.part(), &list, &written, &mut read, random.word());
+        check(number == REFUSED_STEP, || differs(what, REFUSED_STEP, number))?;
+        check(read == kept, || format!("{what} changed the bytes of read"))?;
+        self.check_kept(what)
+    }
+
+    fn check_bytes(&self, call: &Call, outcome: &Outcome) -> Result<(), String> {
+        check(self.list.holds(&call.list), || "the list was changed".into())?;
+        check(self.written.holds(&call.written), || {
+            "the written bytes were changed".into()
+        })?;
+        check(self.read.holds(&outcome.read), || {
+            read_differs(&outcome.read, &self.read)
+        })?;
+        let end = self.block.bytes.len() - GUARD;
+        let guards = self.block.bytes[..GUARD] == [0xa5; GUARD] && self.block.bytes[end..] == [0x5a; GUARD];
+        check(guards, || "bytes beside the block were changed".into())
+    }
+}
+
+fn read_differs(rust: &[u8], read: &Lent) -> String {
+    let library = &read.bytes[GUARD..read.bytes.len() - GUARD];
+    match rust.iter().zip(library).position(|(a, b)| a != b) {
+        None => "bytes beside the read buffer were changed".into(),
+        Some(i) => format!(
+            "byte {i} of the read buffer: the Rust {:02x}, the C library {:02x}",
+            rust[i], library[i]
+        ),
+    }
+}
+
+fn differs(what: &str, rust: u64, library: u64) -> String {
+    format!(
+        "{what}: the Rust {}, the C library {}",
+        number_text(rust),
+        number_text(library)
+    )
+}

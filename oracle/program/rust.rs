@@ -1,0 +1,107 @@
+//! Runs a call on the carried Rust.
+
+use std::any::Any;
+use std::panic::{catch_unwind, AssertUnwindSafe};
+use std::sync::OnceLock;
+
+use record::{Answers, Call, Entry, OutOfAnswers, Record};
+
+use crate::causes;
+
+/// The carried Rust, built for each chip.
+pub type Chips = [fn(&Call, &mut [u8]) -> (u8, u16); 4];
+
+static CHIPS: OnceLock<Chips> = OnceLock::new();
+
+/// Says which builds to run, once and first of all. Panics of the Rust are then kept quiet; `Outcome::panic` has them.
+pub fn use_chips(chips: Chips) {
+    CHIPS.get_or_init(|| chips);
+    std::panic::set_hook(Box::new(|_| {}))
+}
+
+/// What a call comes to: its record, its end as the C library's number (none for an open call) and the read bytes.
+pub struct Outcome {
+    pub record: Record,
+    pub end: Option<u32>,
+    pub read: Vec<u8>,
+    pub panic: Option<String>,
+}
+
+pub const fn end_number(end: u8, value: u16) -> u32 {
+    (end as u32) << 8 | (value as u32) << 16
+}
+
+impl Outcome {
+    /// Refused before any access: nothing may have changed.
+    pub fn is_refused(&self) -> bool {
+        self.record.accesses.is_empty() && !matches!(self.end, Some(0) | None)
+    }
+}
+
+fn message(panic: Box<dyn Any + Send>) -> String {
+    match panic.downcast::<&str>() {
+        Ok(text) => text.to_string(),
+        Err(panic) => panic.downcast::<String>().map_or("?".into(), |text| *text),
+    }
+}
+
+/// Calls the Rust and nothing else: the record is the caller's to start and finish.
+pub fn run_bare(call: &Call, read: &mut [u8]) -> (u8, u16) {
+    CHIPS.get().expect("use_chips comes first")[call.chip as usize](call, read)
+}
+
+/// Runs a call on the Rust, without a look at the added causes.
+pub fn run_rust(call: &Call, record: Record, answers: Box<dyn Answers>, with_places: bool) -> Outcome {
+    let mut read = call.read.clone();
+    record::start(record, answers, with_places);
+    let result = catch_unwind(AssertUnwindSafe(|| run_bare(call, &mut read)));
+    let (record, _) = record::finish();
+    let (end, panic) = match result {
+        Ok((end, value)) => (Some(end_number(end, value)), None),
+        Err(payload) if payload.is::<OutOfAnswers>() => (None, None),
+        Err(payload) => (None, Some(message(payload))),
+    };
+    Outcome {
+        record,
+        end,
+        read,
+        panic,
+    }
+}
+
+/// A list whose sums are not the lent lengths comes here only if the Rust refuses it for another cause. The Rust's
+/// operations hold their own bytes, so they get as many as the list says.
+fn with_bytes_for_its_list(call: &Call) -> Option<Call> {
+    let sum = |asked| call.operations().filter(|o| o.0 == asked).map(|o| o.1).sum::<usize>();
+    let sums = (sum(0), sum(1));
+    if call.entry != Entry::Transaction || sums == (call.written.len(), call.read.len()) {
+        return None;
+    }
+    let mut lent = call.clone();
+    lent.written = vec![0; sums.0];
+    lent.read = vec![0; sums.1];
+    Some(lent)
+}
+
+/// Runs a call: the added causes first, then the Rust. `record` is reused.
+pub fn run(call: &Call, mut record: Record, answers: Box<dyn Answers>, with_places: bool) -> Outcome {
+    if let Some(cause) = causes::added(call) {
+        record::start(record, answers, false);
+        record = record::finish().0;
+        return Outcome {
+            record,
+            end: Some(end_number(cause, 0)),
+            read: call.read.clone(),
+            panic: None,
+        };
+    }
+    match with_bytes_for_its_list(call) {
+        None => run_rust(call, record, answers, with_places),
+        Some(lent) => {
+            let mut outcome = run_rust(&lent, record, answers, with_places);
+            assert!(outcome.is_refused(), "a list that does not fit its buffers was run");
+            outcome.read = call.read.clone();
+            outcome
+        }
+    }
+}
