@@ -1,12 +1,10 @@
-# `make test` is the gate: every proof, every edit that must be refused, every program. Its last line is rt's verdict.
-.PHONY: test demo
+# `make test` is the gate: the C programs on the library, every proof, every edit that must be refused, every Rattle program. Its last line
+# is rt's verdict.
+.PHONY: test
 
-test:
+test: ctest demo-check
 	rt fmt --check
 	rt ci
 
-# Until the C library exists: proves the bus settings and `init`, whose worked example is crates/timing/proofs/Examples.antt.
-demo:
-	rt check timing
-
+include c.mk
 include oracle/oracle.mk

@@ -1,7 +1,6 @@
 # The Rust as oracle: built with rustc alone, compared with the C library. See oracle/README.md.
 
 RUSTC ?= rustc
-CH32_LIB ?= target/lib/libch32_i2c.a
 ORACLE ?= target/oracle
 ORACLE_SRC ?= oracle
 CALLS ?= 100000
@@ -23,11 +22,6 @@ FLAGS_0 =
 FLAGS_1 = --cfg i2c_v3
 FLAGS_2 = --cfg ch32v4
 FLAGS_3 = --cfg i2c_v3 --cfg ch32v4
-
-# The project's own archive is made by `make lib`, once: not again for each fault.
-ifeq ($(CH32_LIB)$(LIB_MADE),target/lib/libch32_i2c.a)
-$(CH32_LIB): lib ;
-endif
 
 $(ORACLE)/librecord.rlib: oracle/record/lib.rs oracle/record/call.rs
 	@mkdir -p $(ORACLE)
@@ -76,7 +70,7 @@ $(FAULT_RESULTS): $(ORACLE)/faults/%/result: oracle/faults/%.patch $(HAL) $(ORAC
 	@rm -rf $(@D) && mkdir -p $(@D)/src && cp -r oracle/hal oracle/carried $(@D)/src
 	@cp -p $(ORACLE)/librecord.rlib $(ORACLE)/liboracle.rlib $(SHIM_LIBS) $(@D)
 	@patch -s -p1 -d $(@D)/src < $<
-	@$(MAKE) -s --no-print-directory ORACLE=$(@D) ORACLE_SRC=$(@D)/src ORACLE_OPT=0 LIB_MADE=1 $(@D)/compare > $(@D)/log 2>&1
+	@$(MAKE) -s --no-print-directory ORACLE=$(@D) ORACLE_SRC=$(@D)/src ORACLE_OPT=0 $(@D)/compare > $(@D)/log 2>&1
 	@$(@D)/compare until $(SEED) $(CALLS) > $@.new; echo "$*: $$(cat $@.new)"
 	@rm -rf $(@D)/src $(@D)/*.rlib $(@D)/compare && mv $@.new $@
 
