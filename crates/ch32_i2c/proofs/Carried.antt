@@ -1,9 +1,10 @@
 -- A machine whose states stand in blocks is seen through begin and step as it is.
 -- Assumes nothing.
-use mathlib.Core.Path.{_≡_, refl, ap, sym, _∙_}
+use mathlib.Core.Path.{_≡_, refl, ap, sym, subst, _∙_}
 use mathlib.Core.Bool.{Bool, true, false, true≢false}
 use mathlib.Core.List.{List, [], _∷_, map}
 use Prim.Native.Nat.{ℕ, suc}
+use native.Mathlib.Omega.{arith}
 use lib.ListN.{length, length-set}
 use Rattle.access.specs.declared.ending.Error.the-variants.{InvalidState}
 use Rattle.access.specs.declared.need.Need.{Need}
@@ -14,7 +15,8 @@ use Rattle.access.specs.Endings.{failed}
 use Rattle.access.specs.Record.{Shown}
 use Rattle.access.specs.Machine.{Machine, filled, kept, seenOwed, seenAnswered, shownFrom, isEnd}
 use Rattle.ch32_i2c.specs.Left.{Left, left, refusedWith}
-use Rattle.ch32_i2c.specs.Fed.{Entry, leftsFrom, lastFrom, handedOut, nextsOf, inTurn, stored}
+use Rattle.ch32_i2c.specs.Fed.{Entry, leftsFrom, lastFrom, handedOut, nextsOf, inTurn, stored, Still, EndsStill, Makes}
+use Rattle.ch32_i2c.specs.Fed as fed
 
 kept-length : (n : Need) (a : ℕ) (r : List ℕ) → length (kept n a r) ≡ length r
 kept-length (need.Read x) a r = refl
@@ -136,3 +138,63 @@ module _ {m : Machine} {bytes : List ℕ} {room : ℕ} {c : Entry} {image : m .S
           ap (λ (x : Left). lastFrom c x answers .read) (k .ended s r a g l e)
           ∙ ended-read s r g l e answers
           ∙ ended-stored bytes (m .need s) a (shownFrom m bytes (m .move s a) answers) r e
+
+  -- behind the end nothing changes
+  still-ended : (s : m .State) (r : List ℕ) → Good s → length r ≡ room → isEnd (m .need s) ≡ true → (answers : List ℕ) → EndsStill (leftsFrom c (refusedWith InvalidState (image s) r) answers)
+  still-ended s r g l e [] = tt
+  still-ended s r g l e (a ∷ []) = ((λ _. k .ended s r a g l e), tt)
+  still-ended s r g l e (a ∷ a′ ∷ answers) =
+      ((λ _. k .ended s r a g l e), subst (λ (h : Left). EndsStill (leftsFrom c h (a′ ∷ answers))) (sym (k .ended s r a g l e)) (still-ended s r g l e (a′ ∷ answers)))
+
+  filled-end : (n : Need) → fed.isEnd (filled bytes n) ≡ isEnd n
+  filled-end (need.Read x) = refl
+  filled-end (need.Write x v) = refl
+  filled-end need.Clock = refl
+  filled-end (need.Send p) = refl
+  filled-end (need.Keep p) = refl
+  filled-end need.Drop = refl
+  filled-end (need.End e) = refl
+
+  -- the first of a list of what is left
+  first-still : (h : Left) (rest : List ℕ) (x : Left) → (fed.isEnd (x .next) ≡ true → h ≡ refusedWith InvalidState (x .block) (x .read)) → EndsStill (leftsFrom c h rest) → Still x (leftsFrom c h rest)
+  first-still h [] x p q = (p, tt)
+  first-still h (a ∷ rest) x p q = (p, q)
+
+  pub carried-still : (s : m .State) (r : List ℕ) → Good s → length r ≡ room → (answers : List ℕ) → EndsStill (leftsFrom c (leftAt s r) answers)
+  carried-still s r g l [] = tt
+  carried-still s r g l (a ∷ answers) = go (isEnd (m .need s)) refl (carried-still (m .move s a) (kept (m .need s) a r) (k .stays s a g) (kept-length (m .need s) a r ∙ l) answers)
+    where
+      go : (b : Bool) → isEnd (m .need s) ≡ b → EndsStill (leftsFrom c (leftAt (m .move s a) (kept (m .need s) a r)) answers) → Still (leftAt s r) (leftsFrom c (c .step (image s) r a) answers)
+      go false e h =
+          first-still (c .step (image s) r a) answers (leftAt s r) (λ z. absurd (true≢false (sym z ∙ filled-end (m .need s) ∙ e)))
+          (subst (λ (x : Left). EndsStill (leftsFrom c x answers)) (sym (k .taken s r a g l e)) h)
+      go true e h =
+          first-still (c .step (image s) r a) answers (leftAt s r) (λ _. k .ended s r a g l e) (subst (λ (x : Left). EndsStill (leftsFrom c x answers)) (sym (k .ended s r a g l e)) (still-ended s r g l e answers))
+
+  -- begin leaves a state's image: then the call makes what the machine shows
+  pub carried : (s : m .State) (b r : List ℕ) → Good s → length r ≡ room → c .begin b r ≡ leftAt s r → (answers : List ℕ) → Makes c b r answers (shownFrom m bytes s answers)
+  carried s b r g l e answers =
+      record {
+        accesses = ap (λ (h : Left). handedOut (leftsFrom c h answers)) e ∙ carried-accesses s r g l answers;
+        still = subst (λ (h : Left). EndsStill (leftsFrom c h answers)) (sym e) (carried-still s r g l answers);
+        read = ap (λ (h : Left). lastFrom c h answers .read) e ∙ carried-read s r g l answers;
+      }
+
+-- an entry that lends nothing to read
+abbrev pub unread : Entry → Entry
+unread c = record { begin = λ b r. c .begin b []; step = λ b r a. c .step b [] a }
+
+pub nothing-read : (r : List ℕ) → length r ≡ 0 → r ≡ []
+nothing-read [] e = refl
+nothing-read (x ∷ r) e = absurd (omega (arith, e))
+
+pub carries-unread : {m : Machine} {bytes : List ℕ} {c : Entry} {image : m .State → List ℕ} {Good : m .State → Type 0} → Carries m bytes 0 c image Good → Carries m bytes 0 (unread c) image Good
+carries-unread {m} {bytes} {c} {image} {Good} k =
+    record {
+      stays = k .stays;
+      taken =
+          λ s r a g e q.
+          k .taken s [] a g refl q
+          ∙ ap (λ (x : List ℕ). left (filled bytes (m .need (m .move s a))) (image (m .move s a)) (kept (m .need s) a x)) (sym (nothing-read r e));
+      ended = λ s r a g e q. k .ended s [] a g refl q ∙ ap (λ (x : List ℕ). refusedWith InvalidState (image s) x) (sym (nothing-read r e));
+    }
