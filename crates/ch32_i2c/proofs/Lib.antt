@@ -4,6 +4,7 @@ pub mod MasterLeaves
 pub mod InitSlaveLeaves
 pub mod SlaveLeaves
 pub mod Carried
+pub mod Recorded
 pub mod HeldLaws
 pub mod InitCarried
 pub mod TransferCarried

@@ -4,3 +4,4 @@ pub mod Transfer
 pub mod InitSlave
 pub mod Response
 pub mod Fed
+pub mod Demands

@@ -1,0 +1,234 @@
+-- The three demands, said of what C programs call: of blocks, lent bytes and what the eighteen functions hand out. Each exported function's
+-- contract says that it returns the number of what its definition hands out, and leaves the definition's bytes (specs/Left.antt).
+use mathlib.Core.Path.{_≡_}
+use mathlib.Core.Bool.{Bool, true, false, not, _||_, _&&_}
+use mathlib.Core.List.{List, [], _∷_}
+use mathlib.Core.Option.{Option, none, some}
+use Prim.Native.Nat.{ℕ, _<_, _≤_}
+use lib.Dec.{eqb, ltb}
+use lib.ListN.{length, take}
+use Rattle.access.specs.declared.ending.Ending.{Ending}
+use Rattle.access.specs.declared.ending.Ending.the-variants.{Done, Failed}
+use Rattle.access.specs.declared.ending.Error.{Error}
+use Rattle.access.specs.declared.ending.Error.the-variants.{InvalidState, InvalidArgument}
+use Rattle.access.specs.declared.next.Next.{Next}
+use Rattle.access.specs.Endings.{failed, isMet}
+use Rattle.access.specs.Numbers.{nextNumber, HoldsWords}
+use Rattle.access.specs.Record.{Shown, noMore, DifferInPayload, Same, EndsAlike}
+use Rattle.block.specs.Bytes32.{blockSize, Bytes}
+use Rattle.timing.specs.declared.settings.Timed.{Timed}
+use Rattle.timing.specs.declared.settings.Timed.the-variants as timed
+use Rattle.timing.specs.Rust.{timing}
+use Rattle.timing.specs.Claims as timing
+use Rattle.master.specs.declared.call.Kind.{Kind}
+use Rattle.master.specs.declared.call.Kind.the-variants as kind
+use Rattle.master.specs.Calls.{lentWith, refuse, refusal, rustWith, spansBy, NoAddedCause}
+use Rattle.master.specs.Claims.{RunsJoin}
+use Rattle.slave.specs.declared.state.Kind.the-variants.{Listen, RespondToWrite, RespondToRead}
+use Rattle.slave.specs.Init.{initRefusal}
+use Rattle.slave.specs.Calls.{sizeRefusal, rustInit, rustSlave}
+use Rattle.slave.specs.Claims.{Any}
+use Rattle.slave_driver.specs.Lent as slave
+use Rattle.images.specs.Numbers.{chipOf}
+use Rattle.images.specs.MasterImage.{frameOptionsOf}
+use Rattle.ch32_i2c.specs.Left.{Left, refusedWith}
+use Rattle.ch32_i2c.specs.Fed.{Entry, lefts, handedOut, Makes, Seen, StruckSeen, recordOf, endIn, struckBy}
+use Rattle.ch32_i2c.specs.Init.{dutyOf, initBegin, initStep}
+use Rattle.ch32_i2c.specs.Transfer.{callOf, transactionBegin, transactionStep, writeReadBegin, writeReadStep, writeBegin, writeStep, readBegin, readStep}
+use Rattle.ch32_i2c.specs.InitSlave.{configOf, unknownFlags, initSlaveBegin, initSlaveStep}
+use Rattle.ch32_i2c.specs.Response.{listenBegin, listenStep, respondToWriteBegin, respondToWriteStep, respondToReadBegin, respondToReadStep}
+
+-- ---- calls
+
+-- document 01's call: the numbers that C passes, and the bytes that it lends to be sent. Bytes to read into are lent beside it
+pub data Call : Type 0 where
+  init : (chip input frequency duty : ℕ) → Call
+  transaction : (chip address : ℕ) (list written : List ℕ) → Call
+  writeRead : (chip address : ℕ) (written : List ℕ) → Call
+  write : (chip address option : ℕ) (written : List ℕ) → Call
+  read : (chip address option : ℕ) → Call
+  initSlave : (ten address has second general stretching : ℕ) → Call
+  listen : (chip : ℕ) → Call
+  respondToWrite : (chip : ℕ) → Call
+  respondToRead : (chip : ℕ) (reply : List ℕ) → Call
+
+-- its two functions, each step lent the same as begin
+abbrev pub entryOf : Call → Entry
+entryOf (init chip input frequency duty) = record { begin = λ b r. initBegin b chip input frequency duty; step = λ b r a. initStep b a }
+entryOf (transaction chip address list written) = record { begin = λ b r. transactionBegin b chip address list written r; step = λ b r a. transactionStep b list written r a }
+entryOf (writeRead chip address written) = record { begin = λ b r. writeReadBegin b chip address written r; step = λ b r a. writeReadStep b written r a }
+entryOf (write chip address option written) = record { begin = λ b r. writeBegin b chip address option written; step = λ b r a. writeStep b written a }
+entryOf (read chip address option) = record { begin = λ b r. readBegin b chip address option r; step = λ b r a. readStep b r a }
+entryOf (initSlave ten address has second general stretching) = record { begin = λ b r. initSlaveBegin b ten address has second general stretching; step = λ b r a. initSlaveStep b a }
+entryOf (listen chip) = record { begin = λ b r. listenBegin b chip; step = λ b r a. listenStep b a }
+entryOf (respondToWrite chip) = record { begin = λ b r. respondToWriteBegin b chip r; step = λ b r a. respondToWriteStep b r a }
+entryOf (respondToRead chip reply) = record { begin = λ b r. respondToReadBegin b chip reply; step = λ b r a. respondToReadStep b reply a }
+
+-- the bytes to read into that go with a call: any, or none
+abbrev pub Reads : Call → List ℕ → Type 0
+Reads (init chip input frequency duty) bytes = bytes ≡ []
+Reads (transaction chip address list written) bytes = Unit {0}
+Reads (writeRead chip address written) bytes = Unit {0}
+Reads (write chip address option written) bytes = bytes ≡ []
+Reads (read chip address option) bytes = Unit {0}
+Reads (initSlave ten address has second general stretching) bytes = bytes ≡ []
+Reads (listen chip) bytes = bytes ≡ []
+Reads (respondToWrite chip) bytes = Unit {0}
+Reads (respondToRead chip reply) bytes = bytes ≡ []
+
+-- ---- refusals
+
+-- an argument that is none of the call's: 16
+abbrev pub unknown : Call → Bool
+unknown (init chip input frequency duty) = ltb 3 chip || ltb 1 duty
+unknown (transaction chip address list written) = ltb 3 chip
+unknown (writeRead chip address written) = ltb 3 chip
+unknown (write chip address option written) = ltb 3 chip || ltb 5 option
+unknown (read chip address option) = ltb 3 chip || ltb 5 option
+unknown (initSlave ten address has second general stretching) = unknownFlags ten has general stretching
+unknown (listen chip) = ltb 3 chip
+unknown (respondToWrite chip) = ltb 3 chip
+unknown (respondToRead chip reply) = ltb 3 chip
+
+abbrev pub timedRefusal : Timed → Option Error
+timedRefusal (timed.At t) = none
+timedRefusal (timed.Refused e) = some e
+
+-- the call's own causes, in document 01's order, where so many bytes are lent to read
+abbrev pub ownRefusal : Call → ℕ → Option Error
+ownRefusal (init chip input frequency duty) room = timedRefusal (timing (chipOf chip) input frequency (dutyOf duty))
+ownRefusal (transaction chip address list written) room = refusal (callOf chip address kind.Transaction) (lentWith list written room)
+ownRefusal (writeRead chip address written) room = refusal (callOf chip address kind.WriteRead) (lentWith [] written room)
+ownRefusal (write chip address option written) room = refusal (callOf chip address (kind.Write (frameOptionsOf option))) (lentWith [] written 0)
+ownRefusal (read chip address option) room = refusal (callOf chip address (kind.Read (frameOptionsOf option))) (lentWith [] [] room)
+ownRefusal (initSlave ten address has second general stretching) room = initRefusal (configOf ten address has second general stretching)
+ownRefusal (listen chip) room = none
+ownRefusal (respondToWrite chip) room = sizeRefusal room
+ownRefusal (respondToRead chip reply) room = sizeRefusal (length reply)
+
+-- the first cause: 15 for the block's length, 16 for the arguments, then the call's own
+abbrev pub refusalOf : Call → ℕ → ℕ → Option Error
+refusalOf c size room = refuse (not (eqb size blockSize)) InvalidState (refuse (unknown c) InvalidArgument (ownRefusal c room))
+
+-- document 01's accepted call
+abbrev pub Accepted : Call → List ℕ → List ℕ → Type 0
+Accepted c block bytes = refusalOf c (length block) (length bytes) ≡ none
+
+-- ---- layer 1
+
+-- what layer 1 shows of a call after a list of answers, each loop with so many turns
+abbrev pub rustTimed : ℕ → ℕ → Timed → List ℕ → Shown
+rustTimed chip turns (timed.At t) answers = timing.rustInit (chipOf chip) t turns answers
+rustTimed chip turns (timed.Refused e) answers = noMore (some (failed e))
+
+abbrev pub rust : ℕ → Call → ℕ → List ℕ → Shown
+rust turns (init chip input frequency duty) room answers = rustTimed chip turns (timing (chipOf chip) input frequency (dutyOf duty)) answers
+rust turns (transaction chip address list written) room answers = rustWith turns (callOf chip address kind.Transaction) (lentWith list written room) answers
+rust turns (writeRead chip address written) room answers = rustWith turns (callOf chip address kind.WriteRead) (lentWith [] written room) answers
+rust turns (write chip address option written) room answers = rustWith turns (callOf chip address (kind.Write (frameOptionsOf option))) (lentWith [] written 0) answers
+rust turns (read chip address option) room answers = rustWith turns (callOf chip address (kind.Read (frameOptionsOf option))) (lentWith [] [] room) answers
+rust turns (initSlave ten address has second general stretching) room answers = rustInit turns (configOf ten address has second general stretching) answers
+rust turns (listen chip) room answers = rustSlave turns (chipOf chip) Listen (slave.lentWith [] 0) answers
+rust turns (respondToWrite chip) room answers = rustSlave turns (chipOf chip) RespondToWrite (slave.lentWith [] room) answers
+rust turns (respondToRead chip reply) room answers = rustSlave turns (chipOf chip) RespondToRead (slave.lentWith reply 0) answers
+
+-- none of the call's own causes that the port adds to the Rust's: 8 at its size, 10 to 14, and 16 for a list
+abbrev pub NoneAdded : Call → ℕ → Type 0
+NoneAdded (init chip input frequency duty) room = ownRefusal (init chip input frequency duty) room ≡ none
+NoneAdded (transaction chip address list written) room = NoAddedCause kind.Transaction (lentWith list written room)
+NoneAdded (writeRead chip address written) room = NoAddedCause kind.WriteRead (lentWith [] written room)
+NoneAdded (write chip address option written) room = NoAddedCause (kind.Write (frameOptionsOf option)) (lentWith [] written 0)
+NoneAdded (read chip address option) room = NoAddedCause (kind.Read (frameOptionsOf option)) (lentWith [] [] room)
+NoneAdded (initSlave ten address has second general stretching) room = Unit {0}
+NoneAdded (listen chip) room = Unit {0}
+NoneAdded (respondToWrite chip) room = room ≤ 65535
+NoneAdded (respondToRead chip reply) room = length reply ≤ 65535
+
+-- ---- demand 1: one next step, and bad calls refused
+
+-- an end that is none of the refusals: 0, or an error that the hardware gave, 1 to 6
+abbrev pub IsMet : Option Ending → Type 0
+IsMet none = Unit {0}
+IsMet (some (Done o)) = Unit {0}
+IsMet (some (Failed f)) = isMet (f .error) ≡ true
+
+pub record Demand1 : Type 0 where
+  -- a returned number is that of exactly one access or end (every exported contract says that what is handed out holds 16-bit words)
+  pub tells : (m n : Next) → HoldsWords m → HoldsWords n → nextNumber m ≡ nextNumber n → m ≡ n
+  -- begin refuses with the first cause, and then every lent byte is as before
+  pub refuses : (c : Call) (block bytes : List ℕ) → Reads c bytes → (e : Error) → refusalOf c (length block) (length bytes) ≡ some e → entryOf c .begin block bytes ≡ refusedWith e block bytes
+  -- an accepted call ends with 0 or 1 to 6 alone, so it is refused at no step before its end
+  pub ends : (c : Call) (block bytes : List ℕ) → Reads c bytes → Accepted c block bytes → (answers : List ℕ) → IsMet (endIn (handedOut (lefts (entryOf c) block bytes answers)))
+
+-- ---- demand 2: the Rust's accesses
+
+pub record Demand2 : Type 0 where
+  -- an accepted call makes layer 1's accesses and end, and reads the same bytes, for every list of answers
+  pub same : (c : Call) (block bytes : List ℕ) → Reads c bytes → Accepted c block bytes → (turns : ℕ) (answers : List ℕ) → length answers < turns
+      → Makes (entryOf c) block bytes answers (rust turns c (length bytes) answers)
+  -- a call that is refused without an added cause is refused by layer 1 with the same error, before any access
+  pub refused : (c : Call) (room : ℕ) → NoneAdded c room → (e : Error) → ownRefusal c room ≡ some e → (turns : ℕ) (answers : List ℕ) → length answers < turns
+      → rust turns c room answers ≡ noMore (some (failed e))
+  -- embedded-hal's joining
+  pub joins : RunsJoin
+
+-- ---- demand 3: no payload in the record
+
+-- document 01's record of a call, and its end
+abbrev pub recordAfter : Call → List ℕ → List ℕ → List ℕ → List Seen
+recordAfter c block bytes answers = recordOf (handedOut (lefts (entryOf c) block bytes answers)) answers
+
+abbrev pub endAfter : Call → List ℕ → List ℕ → List ℕ → Option Ending
+endAfter c block bytes answers = endIn (handedOut (lefts (entryOf c) block bytes answers))
+
+-- the record with the payload struck out, by layer 1's accesses
+abbrev pub struckAfter : ℕ → Call → List ℕ → List ℕ → List ℕ → List StruckSeen
+struckAfter turns c block bytes answers = struckBy (rust turns c (length bytes) answers .events) (recordAfter c block bytes answers)
+
+-- two calls, whatever their blocks and the bytes to read into were before: after begin and after each step struck records are equal, and
+-- ends alike. (That records and ends are layer 1's, unstruck as well, is demand 2.)
+pub record SeenAlike (Alike : Ending → Ending → Type 0) (turns : ℕ) (c₁ c₂ : Call) (b₁ r₁ b₂ r₂ xs ys : List ℕ) : Type 0 where
+  pub records : (i : ℕ) → struckAfter turns c₁ b₁ r₁ (take i xs) ≡ struckAfter turns c₂ b₂ r₂ (take i ys)
+  pub ends : (i : ℕ) → EndsAlike Alike (endAfter c₁ b₁ r₁ (take i xs)) (endAfter c₂ b₂ r₂ (take i ys))
+
+-- two transfers of one kind, chip and address (a transaction, a write-read, or a frame with its option) whose runs agree in direction and
+-- total length
+pub data SameRuns : Call → ℕ → Call → ℕ → Type 0 where
+  transactions : {chip address : ℕ} {list₁ written₁ list₂ written₂ : List ℕ} {n m : ℕ}
+      → spansBy kind.Transaction list₁ (length written₁) n ≡ spansBy kind.Transaction list₂ (length written₂) m
+      → SameRuns (transaction chip address list₁ written₁) n (transaction chip address list₂ written₂) m
+  writeReads : {chip address : ℕ} {written₁ written₂ : List ℕ} {n : ℕ} → length written₁ ≡ length written₂ → SameRuns (writeRead chip address written₁) n (writeRead chip address written₂) n
+  writes : {chip address option : ℕ} {written₁ written₂ : List ℕ} {n m : ℕ} → length written₁ ≡ length written₂ → SameRuns (write chip address option written₁) n (write chip address option written₂) m
+  reads : {chip address option : ℕ} {n : ℕ} → SameRuns (read chip address option) n (read chip address option) n
+
+-- the bytes that a transfer is lent to write
+abbrev pub writtenBy : Call → List ℕ
+writtenBy (init chip input frequency duty) = []
+writtenBy (transaction chip address list written) = written
+writtenBy (writeRead chip address written) = written
+writtenBy (write chip address option written) = written
+writtenBy (read chip address option) = []
+writtenBy (initSlave ten address has second general stretching) = []
+writtenBy (listen chip) = []
+writtenBy (respondToWrite chip) = []
+writtenBy (respondToRead chip reply) = reply
+
+pub record Demand3 : Type 0 where
+  -- transfers; answers that differ only where the first call owes a payload read
+  pub transfers : (c₁ c₂ : Call) (b₁ r₁ b₂ r₂ : List ℕ) → SameRuns c₁ (length r₁) c₂ (length r₂) → Reads c₁ r₁ → Reads c₂ r₂ → Accepted c₁ b₁ r₁ → Accepted c₂ b₂ r₂
+      → (turns : ℕ) (xs ys : List ℕ) → length xs < turns → length ys < turns → DifferInPayload (rust turns c₁ (length r₁) xs .events) xs ys
+      → SeenAlike Same turns c₁ c₂ b₁ r₁ b₂ r₂ xs ys
+  -- the payloads agree too, written and answered: unstruck records are equal
+  pub transfers-whole : (c₁ c₂ : Call) (b₁ r₁ b₂ r₂ : List ℕ) → SameRuns c₁ (length r₁) c₂ (length r₂) → Reads c₁ r₁ → Reads c₂ r₂ → Accepted c₁ b₁ r₁ → Accepted c₂ b₂ r₂
+      → writtenBy c₁ ≡ writtenBy c₂ → (answers : List ℕ) → recordAfter c₁ b₁ r₁ answers ≡ recordAfter c₂ b₂ r₂ answers
+  -- receives of one chip and buffer length
+  pub receives : (chip : ℕ) (b₁ r₁ b₂ r₂ : List ℕ) → length r₁ ≡ length r₂ → Accepted (respondToWrite chip) b₁ r₁ → Accepted (respondToWrite chip) b₂ r₂
+      → (turns : ℕ) (xs ys : List ℕ) → length xs < turns → length ys < turns → DifferInPayload (rust turns (respondToWrite chip) (length r₁) xs .events) xs ys
+      → SeenAlike Same turns (respondToWrite chip) (respondToWrite chip) b₁ r₁ b₂ r₂ xs ys
+  pub receives-whole : (chip : ℕ) (b₁ r₁ b₂ r₂ : List ℕ) → length r₁ ≡ length r₂ → Accepted (respondToWrite chip) b₁ r₁ → Accepted (respondToWrite chip) b₂ r₂
+      → (answers : List ℕ) → recordAfter (respondToWrite chip) b₁ r₁ answers ≡ recordAfter (respondToWrite chip) b₂ r₂ answers
+  -- replies at one chip, whatever their bytes and lengths, and the same answers; at equal lengths the ends too
+  pub replies : (chip : ℕ) (reply₁ reply₂ b₁ b₂ : List ℕ) → Accepted (respondToRead chip reply₁) b₁ [] → Accepted (respondToRead chip reply₂) b₂ [] → (turns : ℕ) (answers : List ℕ)
+      → length answers < turns → SeenAlike Any turns (respondToRead chip reply₁) (respondToRead chip reply₂) b₁ [] b₂ [] answers answers
+  pub replies-of-one-length : (chip : ℕ) (reply₁ reply₂ b₁ b₂ : List ℕ) → length reply₁ ≡ length reply₂ → Accepted (respondToRead chip reply₁) b₁ [] → Accepted (respondToRead chip reply₂) b₂ []
+      → (turns : ℕ) (answers : List ℕ) → length answers < turns → SeenAlike Same turns (respondToRead chip reply₁) (respondToRead chip reply₂) b₁ [] b₂ [] answers answers
