@@ -5,7 +5,11 @@ pub mod InitSlaveLeaves
 pub mod SlaveLeaves
 pub mod Carried
 pub mod Recorded
+pub mod MetEnds
 pub mod HeldLaws
 pub mod InitCarried
 pub mod TransferCarried
+pub mod TransferMet
 pub mod ResponseCarried
+pub mod ResponseMet
+pub mod CallsRun

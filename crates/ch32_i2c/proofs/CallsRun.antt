@@ -1,0 +1,132 @@
+-- What is seen of an accepted call, whichever it is: its machine's, and so layer 1's.
+-- Assumes nothing.
+use mathlib.Core.Path.{_≡_, refl, ap, sym, subst, _∙_}
+use mathlib.Core.Bool.{Bool, true, false, cond, not, _||_}
+use mathlib.Core.List.{List, [], _∷_}
+use mathlib.Core.Option.{Option, none, some}
+use Prim.Native.Nat.{ℕ, _<_, _≤_}
+use native.Mathlib.Omega.{arith}
+use lib.Dec.{eqb, ltb}
+use lib.ListN.{length}
+use borrow.Author.Tests.{eqb-true, ltb-false, not-false}
+use Rattle.registers.specs.declared.chip.Chip.{Chip}
+use Rattle.access.specs.declared.ending.Error.{Error}
+use Rattle.access.specs.declared.ending.Error.the-variants.{InvalidState, InvalidArgument, BufferTooLong, InvalidAddress}
+use Rattle.access.specs.Endings.{failed, done}
+use Rattle.access.specs.Record.{Shown, noMore}
+use Rattle.access.specs.Machine.{filled, shownFrom}
+use Rattle.block.specs.Bytes32.{blockSize, bytesOf}
+use Rattle.timing.specs.declared.settings.Duty.{Duty}
+use Rattle.timing.specs.declared.settings.Timing.{Timing}
+use Rattle.timing.specs.declared.settings.Timed.{Timed}
+use Rattle.timing.specs.declared.settings.Timed.the-variants as timed
+use Rattle.timing.specs.Rust.{timing}
+use Rattle.timing.specs.Claims as timing
+use Rattle.timing.specs.Machine as init
+use Rattle.timing.proofs.InitAgrees.{init-is-the-rust}
+use Rattle.master.specs.declared.call.Kind.{Kind}
+use Rattle.master.specs.declared.call.Kind.the-variants as kind
+use Rattle.master.specs.declared.call.Call as master
+use Rattle.master.specs.Machine.{master, start, owed}
+use Rattle.master.specs.Calls.{Lent, lentWith, refuse, refusal, callShown, seenAfter, rustWith, shapeOf}
+use Rattle.master.specs.Steps.{begin, begunWith}
+use Rattle.master.proofs.CallAgrees.{passed-cause, master-is-the-rust}
+use Rattle.master.proofs.AcceptedFits.{states-fit}
+use Rattle.slave.specs.declared.config.SlaveConfig.{SlaveConfig}
+use Rattle.slave.specs.declared.state.Kind as slave
+use Rattle.slave.specs.declared.state.Kind.the-variants.{Listen, RespondToWrite, RespondToRead}
+use Rattle.slave.specs.Init as initSlave
+use Rattle.slave.specs.Machine as slaveMachine
+use Rattle.slave.specs.Calls.{SlaveLent, sizeOf, sizeRefusal, settingOf, initShown, slaveShown}
+use Rattle.slave.specs.Calls as slaveCalls
+use Rattle.slave.specs.Steps as slaveSteps
+use Rattle.slave.proofs.CallAgrees.{slave-is-the-rust, accepted-shown}
+use Rattle.slave.proofs.FitsKept as slaveFits
+use Rattle.slave_driver.specs.Lent as slaveLent
+use Rattle.images.specs.Numbers.{chipOf}
+use Rattle.images.specs.MasterImage.{frameOptionsOf}
+use Rattle.ch32_i2c.specs.Left.{Left, left, refusedWith}
+use Rattle.ch32_i2c.specs.Fed.{Entry, Makes}
+use Rattle.ch32_i2c.specs.Init as cInit
+use Rattle.ch32_i2c.specs.Transfer.{callOf, begunLeft, masterBegin}
+use Rattle.ch32_i2c.specs.InitSlave as cInitSlave
+use Rattle.ch32_i2c.specs.Response as response
+use Rattle.ch32_i2c.specs.Demands.{Call, init, transaction, writeRead, write, read, initSlave, listen, respondToWrite, respondToRead, entryOf, Reads, unknown, ownRefusal, refusalOf, Accepted, rust, rustTimed, timedRefusal, IsMet}
+use Rattle.ch32_i2c.proofs.Carried.{Carries, carried, unread, carries-unread}
+use Rattle.ch32_i2c.proofs.Recorded.{Recorded, recorded}
+use Rattle.ch32_i2c.proofs.MetEnds.{shown-met}
+use Rattle.ch32_i2c.proofs.LeavesLaws.{else}
+use Rattle.ch32_i2c.proofs.InitCarried.{initImage, initEntry, init-carries, initSlaveImage, initSlaveEntry, init-slave-carries, Any}
+use Rattle.ch32_i2c.proofs.TransferCarried.{transferEntry, transfer-carries}
+use Rattle.ch32_i2c.proofs.TransferCarried as transfer
+use Rattle.ch32_i2c.proofs.TransferMet.{transfer-met}
+use Rattle.ch32_i2c.proofs.ResponseCarried.{responseEntry, response-carries}
+use Rattle.ch32_i2c.proofs.ResponseCarried as response-carried
+use Rattle.ch32_i2c.proofs.ResponseMet.{response-met}
+
+-- ---- what an accepted call is
+
+pub record Parts (c : Call) (block bytes : List ℕ) : Type 0 where
+  pub size : length block ≡ blockSize
+  pub known : unknown c ≡ false
+  pub own : ownRefusal c (length bytes) ≡ none
+
+pub parts : (c : Call) (block bytes : List ℕ) → Accepted c block bytes → Parts c block bytes
+parts c block bytes a =
+    let p = passed-cause (not (eqb (length block) blockSize)) InvalidState _ a in
+    let q = passed-cause (unknown c) InvalidArgument _ (p .1) in
+    record { size = eqb-true (length block) blockSize (not-false _ (p .0)); known = q .0; own = q .1 }
+
+-- ---- what is seen
+
+-- a call through its entry e shows this after each list of answers
+pub record Runs (e : Entry) (block bytes : List ℕ) (shown : List ℕ → Shown) : Type 0 where
+  pub makes : (answers : List ℕ) → Makes e block bytes answers (shown answers)
+  pub recorded : (answers : List ℕ) → Recorded (shown answers) answers
+  pub met : (answers : List ℕ) → IsMet (shown answers .end)
+
+-- the same, shown in other words
+runs-as : {e : Entry} {block bytes : List ℕ} (f g : List ℕ → Shown) → ((answers : List ℕ) → f answers ≡ g answers) → Runs e block bytes f → Runs e block bytes g
+runs-as {e} {block} {bytes} f g q r =
+    record {
+      makes = λ answers. subst (λ (s : Shown). Makes e block bytes answers s) (q answers) (r .makes answers);
+      recorded = λ answers. subst (λ (s : Shown). Recorded s answers) (q answers) (r .recorded answers);
+      met = λ answers. subst (λ (s : Shown). IsMet (s .end)) (q answers) (r .met answers);
+    }
+
+-- ---- transfers
+
+module _ (c : master.Call) (l : Lent) (accepted : refusal c l ≡ none) where
+  abbrev machineShown : List ℕ → Shown
+  machineShown answers = shownFrom (master (shapeOf c l)) (l .written) (start (shapeOf c l)) answers
+
+  pub call-shown : (answers : List ℕ) → machineShown answers ≡ callShown c l answers
+  unfolding callShown
+  call-shown answers = ap (λ (o : Option Error). seenAfter o c l answers) (sym accepted)
+
+  module _ (u : Bool) (block bytes : List ℕ) (size : length block ≡ blockSize) (known : u ≡ false) (room : length bytes ≡ l .room) where
+    begin-left : transferEntry c l u .begin block bytes ≡ left (filled (l .written) (owed (shapeOf c l) (start (shapeOf c l)))) (transfer.imageOf c l (start (shapeOf c l))) bytes
+    unfolding masterBegin begin owed
+    begin-left =
+        sym (else block u (refusedWith InvalidArgument block bytes) (begunLeft (begin c (lentWith (l .list) (l .written) (length bytes))) block bytes) (refusedWith InvalidState block bytes) size known)
+        ∙ ap (λ (n : ℕ). begunLeft (begin c (lentWith (l .list) (l .written) n)) block bytes) room
+        ∙ ap (λ (o : Option Error). begunLeft (begunWith o c l) block bytes) accepted
+
+    transfer-runs-with : (e : Entry) → Carries (master (shapeOf c l)) (l .written) (l .room) e (transfer.imageOf c l) (transfer.Fit c l)
+        → e .begin block bytes ≡ left (filled (l .written) (owed (shapeOf c l) (start (shapeOf c l)))) (transfer.imageOf c l (start (shapeOf c l))) bytes → Runs e block bytes (callShown c l)
+    transfer-runs-with e k b =
+        runs-as machineShown (callShown c l) call-shown
+        (record {
+          makes = λ answers. carried k (start (shapeOf c l)) block bytes (states-fit .begins c l accepted) room b answers;
+          recorded = λ answers. recorded (master (shapeOf c l)) (l .written) (start (shapeOf c l)) answers;
+          met = λ answers. shown-met (master (shapeOf c l)) (l .written) (transfer.Fit c l) (λ m a g. states-fit .kept c l accepted m a g) (transfer-met (shapeOf c l)) (start (shapeOf c l)) (states-fit .begins c l accepted) answers;
+        })
+
+    pub transfer-runs : Runs (transferEntry c l u) block bytes (callShown c l)
+    transfer-runs = transfer-runs-with (transferEntry c l u) (transfer-carries c l accepted u) begin-left
+
+-- a write lends nothing to read
+pub write-runs : (c : master.Call) (written : List ℕ) → refusal c (lentWith [] written 0) ≡ none → (u : Bool) (block : List ℕ) → length block ≡ blockSize → u ≡ false
+    → Runs (unread (transferEntry c (lentWith [] written 0) u)) block [] (callShown c (lentWith [] written 0))
+write-runs c written accepted u block size known =
+    transfer-runs-with c (lentWith [] written 0) accepted u block [] size known refl (unread (transferEntry c (lentWith [] written 0) u)) (carries-unread (transfer-carries c (lentWith [] written 0) accepted u)) (begin-left c (lentWith [] written 0) accepted u block [] size known refl)
