@@ -8,7 +8,7 @@ use Prim.Native.Nat.{ℕ, _<_, _≤_}
 use native.Mathlib.Omega.{arith}
 use lib.Dec.{eqb, ltb}
 use lib.ListN.{length}
-use borrow.Author.Tests.{eqb-true, ltb-false, not-false}
+use borrow.Author.Tests.{eqb-true, ltb-false, not-false, le-ltb}
 use Rattle.registers.specs.declared.chip.Chip.{Chip}
 use Rattle.access.specs.declared.ending.Error.{Error}
 use Rattle.access.specs.declared.ending.Error.the-variants.{InvalidState, InvalidArgument, BufferTooLong, InvalidAddress}
@@ -20,9 +20,12 @@ use Rattle.timing.specs.declared.settings.Duty.{Duty}
 use Rattle.timing.specs.declared.settings.Timing.{Timing}
 use Rattle.timing.specs.declared.settings.Timed.{Timed}
 use Rattle.timing.specs.declared.settings.Timed.the-variants as timed
+use Rattle.timing.specs.declared.init.Stage as timingStage
+use Rattle.timing.specs.declared.init.Stage.the-variants as timingStages
+use Rattle.timing.specs.declared.init.State as timingState
 use Rattle.timing.specs.Rust.{timing}
 use Rattle.timing.specs.Claims as timing
-use Rattle.timing.specs.Machine as init
+use Rattle.timing.specs.Machine as initMachine
 use Rattle.timing.proofs.InitAgrees.{init-is-the-rust}
 use Rattle.master.specs.declared.call.Kind.{Kind}
 use Rattle.master.specs.declared.call.Kind.the-variants as kind
@@ -33,9 +36,13 @@ use Rattle.master.specs.Steps.{begin, begunWith}
 use Rattle.master.proofs.CallAgrees.{passed-cause, master-is-the-rust}
 use Rattle.master.proofs.AcceptedFits.{states-fit}
 use Rattle.slave.specs.declared.config.SlaveConfig.{SlaveConfig}
+use Rattle.slave.specs.declared.init.InitStage.{InitStage}
+use Rattle.slave.specs.declared.init.InitStage.the-variants as initStage
+use Rattle.slave.specs.declared.init.InitState.{InitState}
+use Rattle.slave.specs.declared.state.Setting.{Setting}
 use Rattle.slave.specs.declared.state.Kind as slave
 use Rattle.slave.specs.declared.state.Kind.the-variants.{Listen, RespondToWrite, RespondToRead}
-use Rattle.slave.specs.Init as initSlave
+use Rattle.slave.specs.Init as initSlaveMachine
 use Rattle.slave.specs.Machine as slaveMachine
 use Rattle.slave.specs.Calls.{SlaveLent, sizeOf, sizeRefusal, settingOf, initShown, slaveShown}
 use Rattle.slave.specs.Calls as slaveCalls
@@ -54,7 +61,7 @@ use Rattle.ch32_i2c.specs.Response as response
 use Rattle.ch32_i2c.specs.Demands.{Call, init, transaction, writeRead, write, read, initSlave, listen, respondToWrite, respondToRead, entryOf, Reads, unknown, ownRefusal, refusalOf, Accepted, rust, rustTimed, timedRefusal, IsMet}
 use Rattle.ch32_i2c.proofs.Carried.{Carries, carried, unread, carries-unread}
 use Rattle.ch32_i2c.proofs.Recorded.{Recorded, recorded}
-use Rattle.ch32_i2c.proofs.MetEnds.{shown-met}
+use Rattle.ch32_i2c.proofs.MetEnds.{MetNeed, shown-met}
 use Rattle.ch32_i2c.proofs.LeavesLaws.{else}
 use Rattle.ch32_i2c.proofs.InitCarried.{initImage, initEntry, init-carries, initSlaveImage, initSlaveEntry, init-slave-carries, Any}
 use Rattle.ch32_i2c.proofs.TransferCarried.{transferEntry, transfer-carries}
@@ -130,3 +137,126 @@ pub write-runs : (c : master.Call) (written : List ℕ) → refusal c (lentWith 
     → Runs (unread (transferEntry c (lentWith [] written 0) u)) block [] (callShown c (lentWith [] written 0))
 write-runs c written accepted u block size known =
     transfer-runs-with c (lentWith [] written 0) accepted u block [] size known refl (unread (transferEntry c (lentWith [] written 0) u)) (carries-unread (transfer-carries c (lentWith [] written 0) accepted u)) (begin-left c (lentWith [] written 0) accepted u block [] size known refl)
+
+-- ---- listening, receives and replies
+
+pub small : (n : ℕ) → sizeRefusal n ≡ none → n ≤ 65535
+small n q = ltb-false 65535 n (passed-cause (ltb 65535 n) BufferTooLong none q .0)
+
+module _ (chip : ℕ) (x : slave.Kind) (l : SlaveLent) (accepted : sizeOf x l ≤ 65535) (block bytes : List ℕ) (size : length block ≡ blockSize) (known : ltb 3 chip ≡ false) (room : length bytes ≡ l .room) where
+  abbrev setting : Setting
+  setting = settingOf (chipOf chip) x l
+
+  response-left : responseEntry (chipOf chip) x l chip .begin block bytes ≡ left (filled (slaveCalls.bytesOf x l) (slaveMachine.owed setting (slaveMachine.start x))) (response-carried.imageOf (chipOf chip) x l (slaveMachine.start x)) bytes
+  unfolding response.slaveBegin slaveSteps.begin slaveMachine.owed
+  response-left =
+      sym (else block (ltb 3 chip) (refusedWith InvalidArgument block bytes) (response.begunLeft (slaveSteps.begin (chipOf chip) x (slaveLent.lentWith (l .reply) (length bytes))) block bytes) (refusedWith InvalidState block bytes) size known)
+      ∙ ap (λ (n : ℕ). response.begunLeft (slaveSteps.begin (chipOf chip) x (slaveLent.lentWith (l .reply) n)) block bytes) room
+      ∙ ap (λ (b : Bool). response.begunLeft (slaveSteps.begunWith (cond b (some BufferTooLong) none) setting (slaveCalls.bytesOf x l)) block bytes) (le-ltb 65535 (sizeOf x l) accepted)
+
+  response-runs-with : (e : Entry) → Carries (slaveMachine.slave setting) (slaveCalls.bytesOf x l) (l .room) e (response-carried.imageOf (chipOf chip) x l) (response-carried.Fit (chipOf chip) x l)
+      → e .begin block bytes ≡ left (filled (slaveCalls.bytesOf x l) (slaveMachine.owed setting (slaveMachine.start x))) (response-carried.imageOf (chipOf chip) x l (slaveMachine.start x)) bytes
+      → Runs e block bytes (slaveShown (chipOf chip) x l)
+  response-runs-with e k b =
+      runs-as (λ answers. shownFrom (slaveMachine.slave setting) (slaveCalls.bytesOf x l) (slaveMachine.start x) answers) (slaveShown (chipOf chip) x l) (λ answers. sym (accepted-shown (chipOf chip) x l accepted answers))
+      (record {
+        makes = λ answers. carried k (slaveMachine.start x) block bytes (slaveFits.states-fit .begins setting) room b answers;
+        recorded = λ answers. recorded (slaveMachine.slave setting) (slaveCalls.bytesOf x l) (slaveMachine.start x) answers;
+        met = λ answers. shown-met (slaveMachine.slave setting) (slaveCalls.bytesOf x l) (response-carried.Fit (chipOf chip) x l) (λ m a g. slaveFits.states-fit .kept setting m a g) (response-met setting) (slaveMachine.start x) (slaveFits.states-fit .begins setting) answers;
+      })
+
+  pub response-runs : Runs (responseEntry (chipOf chip) x l chip) block bytes (slaveShown (chipOf chip) x l)
+  response-runs = response-runs-with (responseEntry (chipOf chip) x l chip) (response-carries (chipOf chip) x l accepted chip) response-left
+
+-- listening and a reply lend nothing to read
+pub unread-runs : (chip : ℕ) (x : slave.Kind) (reply : List ℕ) → sizeOf x (slaveLent.lentWith reply 0) ≤ 65535 → (block : List ℕ) → length block ≡ blockSize → ltb 3 chip ≡ false
+    → Runs (unread (responseEntry (chipOf chip) x (slaveLent.lentWith reply 0) chip)) block [] (slaveShown (chipOf chip) x (slaveLent.lentWith reply 0))
+unread-runs chip x reply accepted block size known =
+    response-runs-with chip x (slaveLent.lentWith reply 0) accepted block [] size known refl (unread (responseEntry (chipOf chip) x (slaveLent.lentWith reply 0) chip))
+    (carries-unread (response-carries (chipOf chip) x (slaveLent.lentWith reply 0) accepted chip)) (response-left chip x (slaveLent.lentWith reply 0) accepted block [] size known refl)
+
+-- ---- init
+
+abbrev pub shownTimed : ℕ → Timed → List ℕ → Shown
+shownTimed chip (timed.At t) answers = shownFrom initMachine.initMachine [] (initMachine.started (chipOf chip) t) answers
+shownTimed chip (timed.Refused e) answers = noMore (some (failed e))
+
+init-stage-met : (st : timingStage.Stage) (s : timingState.State) → MetNeed (initMachine.owedAt st s)
+init-stage-met timingStages.DisableRead s = tt
+init-stage-met timingStages.DisableWrite s = tt
+init-stage-met timingStages.ResetRead s = tt
+init-stage-met timingStages.ResetWrite s = tt
+init-stage-met timingStages.ReleaseRead s = tt
+init-stage-met timingStages.ReleaseWrite s = tt
+init-stage-met timingStages.FrequencyRead s = tt
+init-stage-met timingStages.FrequencyWrite s = tt
+init-stage-met timingStages.RiseWrite s = tt
+init-stage-met timingStages.ClockWrite s = tt
+init-stage-met timingStages.EnableRead s = tt
+init-stage-met timingStages.EnableWrite s = tt
+init-stage-met timingStages.Ended s = tt
+
+init-met : (s : timingState.State) → MetNeed (initMachine.owed s)
+unfolding initMachine.owed
+init-met s = init-stage-met (s .stage) s
+
+module _ (chip input frequency duty : ℕ) (block : List ℕ) (size : length block ≡ blockSize) (known : ltb 3 chip || ltb 1 duty ≡ false) where
+  init-begun : (t : Timing) → timing (chipOf chip) input frequency (cInit.dutyOf duty) ≡ timed.At t
+      → cInit.initBegin block chip input frequency duty ≡ left (filled [] (initMachine.owed (initMachine.started (chipOf chip) t))) (initImage (initMachine.started (chipOf chip) t)) []
+  unfolding cInit.initBegin initMachine.begin
+  init-begun t q =
+      sym (else block (ltb 3 chip || ltb 1 duty) (refusedWith InvalidArgument block []) (cInit.begunLeft (initMachine.begin (chipOf chip) input frequency (cInit.dutyOf duty)) block) (refusedWith InvalidState block []) size known)
+      ∙ ap (λ (y : Timed). cInit.begunLeft (initMachine.begunAt (chipOf chip) y) block) q
+
+  init-runs-at : (x : Timed) → timing (chipOf chip) input frequency (cInit.dutyOf duty) ≡ x → timedRefusal x ≡ none → Runs (initEntry chip input frequency duty) block [] (shownTimed chip x)
+  init-runs-at (timed.Refused e) q r = let z : _≡_ {A = ℕ} 0 1 = cc in absurd (omega arith)
+  init-runs-at (timed.At t) q r =
+      record {
+        makes = λ answers. carried (init-carries chip input frequency duty) (initMachine.started (chipOf chip) t) block [] tt refl (init-begun t q) answers;
+        recorded = λ answers. recorded initMachine.initMachine [] (initMachine.started (chipOf chip) t) answers;
+        met = λ answers. shown-met initMachine.initMachine [] Any (λ s a g. tt) (λ s g. init-met s) (initMachine.started (chipOf chip) t) tt answers;
+      }
+
+  pub init-runs : timedRefusal (timing (chipOf chip) input frequency (cInit.dutyOf duty)) ≡ none → Runs (initEntry chip input frequency duty) block [] (shownTimed chip (timing (chipOf chip) input frequency (cInit.dutyOf duty)))
+  init-runs r = init-runs-at (timing (chipOf chip) input frequency (cInit.dutyOf duty)) refl r
+
+-- ---- init_slave
+
+init-slave-stage-met : (st : InitStage) (s : InitState) → MetNeed (initSlaveMachine.owedAt st s)
+init-slave-stage-met initStage.DisableRead s = tt
+init-slave-stage-met initStage.DisableWrite s = tt
+init-slave-stage-met initStage.BufferRead s = tt
+init-slave-stage-met initStage.BufferWrite s = tt
+init-slave-stage-met initStage.Own s = tt
+init-slave-stage-met initStage.Second s = tt
+init-slave-stage-met initStage.EnableRead s = tt
+init-slave-stage-met initStage.EnableWrite s = tt
+init-slave-stage-met initStage.Ended s = tt
+
+init-slave-met : (s : InitState) → MetNeed (initSlaveMachine.owed s)
+unfolding initSlaveMachine.owed
+init-slave-met s = init-slave-stage-met (s .stage) s
+
+module _ (ten address has second general stretching : ℕ) (block : List ℕ) (size : length block ≡ blockSize) (known : cInitSlave.unknownFlags ten has general stretching ≡ false) where
+  abbrev config : SlaveConfig
+  config = cInitSlave.configOf ten address has second general stretching
+
+  module _ (accepted : initSlaveMachine.initRefusal config ≡ none) where
+    init-shown : (answers : List ℕ) → shownFrom initSlaveMachine.initMachine [] (initSlaveMachine.started config) answers ≡ initShown config answers
+    unfolding initShown
+    init-shown answers = ap (λ (o : Option Error). slaveCalls.seenAfter o (shownFrom initSlaveMachine.initMachine [] (initSlaveMachine.started config) answers)) (sym accepted)
+
+    slave-begun : cInitSlave.initSlaveBegin block ten address has second general stretching ≡ left (filled [] (initSlaveMachine.owed (initSlaveMachine.started config))) (initSlaveImage (initSlaveMachine.started config)) []
+    unfolding cInitSlave.initSlaveBegin initSlaveMachine.begin
+    slave-begun =
+        sym (else block (cInitSlave.unknownFlags ten has general stretching) (refusedWith InvalidArgument block []) (cInitSlave.begunLeft (initSlaveMachine.begin config) block) (refusedWith InvalidState block []) size known)
+        ∙ ap (λ (o : Option Error). cInitSlave.begunLeft (initSlaveMachine.begunWith o config) block) accepted
+
+    pub init-slave-runs : Runs (initSlaveEntry ten address has second general stretching) block [] (initShown config)
+    init-slave-runs =
+        runs-as (λ answers. shownFrom initSlaveMachine.initMachine [] (initSlaveMachine.started config) answers) (initShown config) init-shown
+        (record {
+          makes = λ answers. carried (init-slave-carries ten address has second general stretching) (initSlaveMachine.started config) block [] tt refl slave-begun answers;
+          recorded = λ answers. recorded initSlaveMachine.initMachine [] (initSlaveMachine.started config) answers;
+          met = λ answers. shown-met initSlaveMachine.initMachine [] Any (λ s a g. tt) (λ s g. init-slave-met s) (initSlaveMachine.started config) tt answers;
+        })
