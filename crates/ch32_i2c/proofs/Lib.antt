@@ -13,3 +13,4 @@ pub mod TransferMet
 pub mod ResponseCarried
 pub mod ResponseMet
 pub mod CallsRun
+pub mod Stops

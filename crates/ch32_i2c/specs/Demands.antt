@@ -13,6 +13,7 @@ use Rattle.access.specs.declared.ending.Error.{Error}
 use Rattle.access.specs.declared.ending.Error.the-variants.{InvalidState, InvalidArgument}
 use Rattle.access.specs.declared.next.Next.{Next}
 use Rattle.access.specs.Endings.{failed, isMet}
+use Rattle.access.specs.Machine.{isEnd}
 use Rattle.access.specs.Numbers.{nextNumber, HoldsWords}
 use Rattle.access.specs.Record.{Shown, noMore, DifferInPayload, Same, EndsAlike}
 use Rattle.block.specs.Bytes32.{blockSize, Bytes}
@@ -20,23 +21,35 @@ use Rattle.timing.specs.declared.settings.Timed.{Timed}
 use Rattle.timing.specs.declared.settings.Timed.the-variants as timed
 use Rattle.timing.specs.Rust.{timing}
 use Rattle.timing.specs.Claims as timing
+use Rattle.timing.specs.Machine as initMachine
 use Rattle.master.specs.declared.call.Kind.{Kind}
 use Rattle.master.specs.declared.call.Kind.the-variants as kind
-use Rattle.master.specs.Calls.{lentWith, refuse, refusal, rustWith, spansBy, NoAddedCause}
+use Rattle.master.specs.Steps as master
+use Rattle.master.specs.Calls.{Lent, lentWith, refuse, refusal, rustWith, spansBy, NoAddedCause}
 use Rattle.master.specs.Claims.{RunsJoin}
 use Rattle.slave.specs.declared.state.Kind.the-variants.{Listen, RespondToWrite, RespondToRead}
 use Rattle.slave.specs.Init.{initRefusal}
-use Rattle.slave.specs.Calls.{sizeRefusal, rustInit, rustSlave}
+use Rattle.slave.specs.Init as initSlaveMachine
+use Rattle.slave.specs.Calls.{SlaveLent, sizeOf, sizeRefusal, rustInit, rustSlave}
+use Rattle.slave.specs.Steps as slave
 use Rattle.slave.specs.Claims.{Any}
-use Rattle.slave_driver.specs.Lent as slave
-use Rattle.images.specs.Numbers.{chipOf}
+use Rattle.slave_driver.specs.Lent as slaveLent
+use Rattle.images.specs.declared.init_image.InitFound.{InitFound}
+use Rattle.images.specs.declared.init_image.InitFound.the-variants as initFound
+use Rattle.images.specs.declared.master_image.MasterFound.{MasterFound}
+use Rattle.images.specs.declared.master_image.MasterFound.the-variants as masterFound
+use Rattle.images.specs.declared.init_slave_image.InitSlaveFound.{InitSlaveFound}
+use Rattle.images.specs.declared.init_slave_image.InitSlaveFound.the-variants as initSlaveFound
+use Rattle.images.specs.declared.slave_image.SlaveFound.{SlaveFound}
+use Rattle.images.specs.declared.slave_image.SlaveFound.the-variants as slaveFound
+use Rattle.images.specs.Numbers.{chipOf, transactionEntry, writeReadEntry, writeEntry, readEntry, listenEntry, respondToWriteEntry, respondToReadEntry}
 use Rattle.images.specs.MasterImage.{frameOptionsOf}
 use Rattle.ch32_i2c.specs.Left.{Left, refusedWith}
 use Rattle.ch32_i2c.specs.Fed.{Entry, lefts, handedOut, Makes, Seen, StruckSeen, recordOf, endIn, struckBy}
-use Rattle.ch32_i2c.specs.Init.{dutyOf, initBegin, initStep}
-use Rattle.ch32_i2c.specs.Transfer.{callOf, transactionBegin, transactionStep, writeReadBegin, writeReadStep, writeBegin, writeStep, readBegin, readStep}
-use Rattle.ch32_i2c.specs.InitSlave.{configOf, unknownFlags, initSlaveBegin, initSlaveStep}
-use Rattle.ch32_i2c.specs.Response.{listenBegin, listenStep, respondToWriteBegin, respondToWriteStep, respondToReadBegin, respondToReadStep}
+use Rattle.ch32_i2c.specs.Init.{dutyOf, initBegin, initHeld, initStep}
+use Rattle.ch32_i2c.specs.Transfer.{callOf, masterHeld, transactionBegin, transactionStep, writeReadBegin, writeReadStep, writeBegin, writeStep, readBegin, readStep}
+use Rattle.ch32_i2c.specs.InitSlave.{configOf, unknownFlags, initSlaveBegin, initSlaveHeld, initSlaveStep}
+use Rattle.ch32_i2c.specs.Response.{slaveHeld, listenBegin, listenStep, respondToWriteBegin, respondToWriteStep, respondToReadBegin, respondToReadStep}
 
 -- ---- calls
 
@@ -128,9 +141,9 @@ rust turns (writeRead chip address written) room answers = rustWith turns (callO
 rust turns (write chip address option written) room answers = rustWith turns (callOf chip address (kind.Write (frameOptionsOf option))) (lentWith [] written 0) answers
 rust turns (read chip address option) room answers = rustWith turns (callOf chip address (kind.Read (frameOptionsOf option))) (lentWith [] [] room) answers
 rust turns (initSlave ten address has second general stretching) room answers = rustInit turns (configOf ten address has second general stretching) answers
-rust turns (listen chip) room answers = rustSlave turns (chipOf chip) Listen (slave.lentWith [] 0) answers
-rust turns (respondToWrite chip) room answers = rustSlave turns (chipOf chip) RespondToWrite (slave.lentWith [] room) answers
-rust turns (respondToRead chip reply) room answers = rustSlave turns (chipOf chip) RespondToRead (slave.lentWith reply 0) answers
+rust turns (listen chip) room answers = rustSlave turns (chipOf chip) Listen (slaveLent.lentWith [] 0) answers
+rust turns (respondToWrite chip) room answers = rustSlave turns (chipOf chip) RespondToWrite (slaveLent.lentWith [] room) answers
+rust turns (respondToRead chip reply) room answers = rustSlave turns (chipOf chip) RespondToRead (slaveLent.lentWith reply 0) answers
 
 -- none of the call's own causes that the port adds to the Rust's: 8 at its size, 10 to 14, and 16 for a list
 abbrev pub NoneAdded : Call → ℕ → Type 0
@@ -146,6 +159,34 @@ NoneAdded (respondToRead chip reply) room = length reply ≤ 65535
 
 -- ---- demand 1: one next step, and bad calls refused
 
+-- whether a step is taken: the block is the image of a state of the entry's call that fits what is lent, and has not ended
+abbrev pub takesInit : InitFound → Bool
+takesInit (initFound.At s) = not (isEnd (initMachine.owed s))
+takesInit initFound.Nothing = false
+
+abbrev pub takesTransfer : MasterFound → Lent → Bool
+takesTransfer (masterFound.At s) l = master.isOpen s l
+takesTransfer masterFound.Nothing l = false
+
+abbrev pub takesInitSlave : InitSlaveFound → Bool
+takesInitSlave (initSlaveFound.At s) = not (isEnd (initSlaveMachine.owed s))
+takesInitSlave initSlaveFound.Nothing = false
+
+abbrev pub takesResponse : SlaveFound → SlaveLent → Bool
+takesResponse (slaveFound.At s) l = slave.isOpen s (sizeOf (s .kind) l)
+takesResponse slaveFound.Nothing l = false
+
+abbrev pub takes : Call → List ℕ → List ℕ → Bool
+takes (init chip input frequency duty) block bytes = takesInit (initHeld block)
+takes (transaction chip address list written) block bytes = takesTransfer (masterHeld transactionEntry block) (lentWith list written (length bytes))
+takes (writeRead chip address written) block bytes = takesTransfer (masterHeld writeReadEntry block) (lentWith [] written (length bytes))
+takes (write chip address option written) block bytes = takesTransfer (masterHeld writeEntry block) (lentWith [] written 0)
+takes (read chip address option) block bytes = takesTransfer (masterHeld readEntry block) (lentWith [] [] (length bytes))
+takes (initSlave ten address has second general stretching) block bytes = takesInitSlave (initSlaveHeld block)
+takes (listen chip) block bytes = takesResponse (slaveHeld listenEntry block) (slaveLent.lentWith [] 0)
+takes (respondToWrite chip) block bytes = takesResponse (slaveHeld respondToWriteEntry block) (slaveLent.lentWith [] (length bytes))
+takes (respondToRead chip reply) block bytes = takesResponse (slaveHeld respondToReadEntry block) (slaveLent.lentWith reply 0)
+
 -- an end that is none of the refusals: 0, or an error that the hardware gave, 1 to 6
 abbrev pub IsMet : Option Ending → Type 0
 IsMet none = Unit {0}
@@ -157,6 +198,8 @@ pub record Demand1 : Type 0 where
   pub tells : (m n : Next) → HoldsWords m → HoldsWords n → nextNumber m ≡ nextNumber n → m ≡ n
   -- begin refuses with the first cause, and then every lent byte is as before
   pub refuses : (c : Call) (block bytes : List ℕ) → Reads c bytes → (e : Error) → refusalOf c (length block) (length bytes) ≡ some e → entryOf c .begin block bytes ≡ refusedWith e block bytes
+  -- a step on any other block, or lent what does not fit, is refused with 15, and every lent byte is as before
+  pub stops : (c : Call) (block bytes : List ℕ) → Reads c bytes → Bytes block → takes c block bytes ≡ false → (a : ℕ) → entryOf c .step block bytes a ≡ refusedWith InvalidState block bytes
   -- an accepted call ends with 0 or 1 to 6 alone, so it is refused at no step before its end
   pub ends : (c : Call) (block bytes : List ℕ) → Reads c bytes → Accepted c block bytes → (answers : List ℕ) → IsMet (endIn (handedOut (lefts (entryOf c) block bytes answers)))
 
