@@ -14,3 +14,4 @@ pub mod ResponseCarried
 pub mod ResponseMet
 pub mod CallsRun
 pub mod Stops
+pub mod Demands

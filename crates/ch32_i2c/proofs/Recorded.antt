@@ -57,7 +57,7 @@ recorded m bytes s (a ∷ answers) = answered-recorded bytes a (shownFrom m byte
 
 -- ---- striking out
 
-abbrev asSeen : Struck → StruckSeen
+abbrev pub asSeen : Struck → StruckSeen
 asSeen (access.whole e) = whole (seenOf e)
 asSeen access.sent = sent
 asSeen access.received = received

@@ -1,0 +1,356 @@
+-- The three demands hold.
+-- Assumes nothing.
+use mathlib.Core.Path.{_≡_, refl, ap, sym, subst, _∙_}
+use mathlib.Core.Bool.{Bool, true, false, cond, not, _||_, true≢false}
+use mathlib.Core.List.{List, [], _∷_, map}
+use mathlib.Core.Option.{Option, none, some}
+use Prim.Native.Nat.{ℕ, _<_, _≤_}
+use native.Mathlib.Omega.{arith}
+use lib.Dec.{eqb, ltb}
+use lib.ListN.{length, take, length-take}
+use borrow.Author.Tests.{eqb-true, ne-eqb, le-ltb}
+use Rattle.access.specs.declared.ending.Ending.{Ending}
+use Rattle.access.specs.declared.ending.Error.{Error}
+use Rattle.access.specs.declared.ending.Error.the-variants.{InvalidState, InvalidArgument, BufferTooLong, InvalidAddress}
+use Rattle.access.specs.Endings.{failed}
+use Rattle.access.specs.Record.{Event, Shown, noMore, DifferInPayload, Same, SameStruck, EndsAlike, struck}
+use Rattle.access.specs.Machine.{shownFrom}
+use Rattle.access.proofs.NumberLaws.{number-injective}
+use Rattle.block.specs.Bytes32.{blockSize, Bytes}
+use Rattle.timing.specs.declared.settings.Timed.{Timed}
+use Rattle.timing.specs.declared.settings.Timed.the-variants as timed
+use Rattle.timing.specs.Rust.{timing}
+use Rattle.timing.specs.Machine as initMachine
+use Rattle.timing.proofs.InitAgrees.{init-is-the-rust}
+use Rattle.master.specs.declared.call.Call as master
+use Rattle.master.specs.declared.call.Kind.the-variants as kind
+use Rattle.master.specs.Calls.{Lent, lentWith, refuse, refusal, callShown, seenAfter, rustWith, spansBy, spansOf}
+use Rattle.master.specs.Steps as masterSteps
+use Rattle.master.specs.Claims.{Comparable}
+use Rattle.master.proofs.CallAgrees.{passed-cause, master-is-the-rust, runs-join}
+use Rattle.master.proofs.Secret.{master-is-secret}
+use Rattle.slave.specs.declared.config.SlaveConfig.{SlaveConfig}
+use Rattle.slave.specs.declared.state.Kind as slave
+use Rattle.slave.specs.Machine as slaveMachine
+use Rattle.slave.specs.declared.state.Kind.the-variants.{Listen, RespondToWrite, RespondToRead}
+use Rattle.slave.specs.Init as initSlaveMachine
+use Rattle.slave.specs.Calls.{SlaveLent, sizeOf, sizeRefusal, initShown, slaveShown}
+use Rattle.slave.specs.Calls as slaveCalls
+use Rattle.slave.specs.Steps as slaveSteps
+use Rattle.slave.specs.Claims.{Any}
+use Rattle.slave.proofs.CallAgrees.{slave-is-the-rust}
+use Rattle.slave.proofs.Secret.{slave-is-secret}
+use Rattle.slave_driver.specs.Lent as slaveLent
+use Rattle.images.specs.Numbers.{chipOf, transactionEntry, writeReadEntry, writeEntry, readEntry, listenEntry, respondToWriteEntry, respondToReadEntry}
+use Rattle.images.specs.MasterImage.{frameOptionsOf}
+use Rattle.ch32_i2c.specs.Left.{Left, left, refusedWith}
+use Rattle.ch32_i2c.specs.Fed.{Entry, Makes, lefts, handedOut, recordOf, endIn, struckBy, StruckSeen, Seen}
+use Rattle.ch32_i2c.specs.Init as cInit
+use Rattle.ch32_i2c.specs.Transfer.{callOf, masterBegin}
+use Rattle.ch32_i2c.specs.Transfer as cTransfer
+use Rattle.ch32_i2c.specs.InitSlave as cInitSlave
+use Rattle.ch32_i2c.specs.Response as cResponse
+use Rattle.ch32_i2c.specs.Demands.{Call, init, transaction, writeRead, write, read, initSlave, listen, respondToWrite, respondToRead, entryOf, Reads, unknown, ownRefusal, refusalOf, Accepted, timedRefusal, rust, rustTimed, NoneAdded, IsMet, takes, Demand1, Demand2, Demand3, SeenAlike, SameRuns, transactions, writeReads, writes, reads, writtenBy, recordAfter, endAfter, struckAfter}
+use Rattle.ch32_i2c.proofs.LeavesLaws.{short, then, else}
+use Rattle.ch32_i2c.proofs.Recorded.{Recorded, seenOf, asSeen, record-is, end-is, struck-is}
+use Rattle.ch32_i2c.proofs.CallsRun.{Parts, parts, Runs, transfer-runs, write-runs, response-runs, unread-runs, init-runs, init-slave-runs, shownTimed, small}
+use Rattle.ch32_i2c.proofs.Stops.{init-stops, master-stops, init-slave-stops, slave-stops}
+
+-- ---- what the machine of a call shows
+
+abbrev shownBy : Call → ℕ → List ℕ → Shown
+shownBy (init chip input frequency duty) room = shownTimed chip (timing (chipOf chip) input frequency (cInit.dutyOf duty))
+shownBy (transaction chip address list written) room = callShown (callOf chip address kind.Transaction) (lentWith list written room)
+shownBy (writeRead chip address written) room = callShown (callOf chip address kind.WriteRead) (lentWith [] written room)
+shownBy (write chip address option written) room = callShown (callOf chip address (kind.Write (frameOptionsOf option))) (lentWith [] written 0)
+shownBy (read chip address option) room = callShown (callOf chip address (kind.Read (frameOptionsOf option))) (lentWith [] [] room)
+shownBy (initSlave ten address has second general stretching) room = initShown (cInitSlave.configOf ten address has second general stretching)
+shownBy (listen chip) room = slaveShown (chipOf chip) Listen (slaveLent.lentWith [] 0)
+shownBy (respondToWrite chip) room = slaveShown (chipOf chip) RespondToWrite (slaveLent.lentWith [] room)
+shownBy (respondToRead chip reply) room = slaveShown (chipOf chip) RespondToRead (slaveLent.lentWith reply 0)
+
+-- where nothing is lent to read
+at-nothing : (c : Call) (block bytes : List ℕ) → bytes ≡ [] → (Accepted c block [] → Runs (entryOf c) block [] (shownBy c 0)) → Accepted c block bytes → Runs (entryOf c) block bytes (shownBy c (length bytes))
+at-nothing c block bytes e f a = subst (λ (r : List ℕ). Accepted c block r → Runs (entryOf c) block r (shownBy c (length r))) (sym e) f a
+
+runs : (c : Call) (block bytes : List ℕ) → Reads c bytes → Accepted c block bytes → Runs (entryOf c) block bytes (shownBy c (length bytes))
+runs (init chip input frequency duty) block bytes e a =
+    at-nothing (init chip input frequency duty) block bytes e
+    (λ a. let p = parts (init chip input frequency duty) block [] a in init-runs chip input frequency duty block (p .size) (p .known) (p .own)) a
+runs (transaction chip address list written) block bytes e a =
+    let p = parts (transaction chip address list written) block bytes a in
+    transfer-runs (callOf chip address kind.Transaction) (lentWith list written (length bytes)) (p .own) (unknown (transaction chip address list written)) block bytes (p .size) (p .known) refl
+runs (writeRead chip address written) block bytes e a =
+    let p = parts (writeRead chip address written) block bytes a in
+    transfer-runs (callOf chip address kind.WriteRead) (lentWith [] written (length bytes)) (p .own) (unknown (writeRead chip address written)) block bytes (p .size) (p .known) refl
+runs (write chip address option written) block bytes e a =
+    at-nothing (write chip address option written) block bytes e
+    (λ a. let p = parts (write chip address option written) block [] a in write-runs (callOf chip address (kind.Write (frameOptionsOf option))) written (p .own) (unknown (write chip address option written)) block (p .size) (p .known)) a
+runs (read chip address option) block bytes e a =
+    let p = parts (read chip address option) block bytes a in
+    transfer-runs (callOf chip address (kind.Read (frameOptionsOf option))) (lentWith [] [] (length bytes)) (p .own) (unknown (read chip address option)) block bytes (p .size) (p .known) refl
+runs (initSlave ten address has second general stretching) block bytes e a =
+    at-nothing (initSlave ten address has second general stretching) block bytes e
+    (λ a. let p = parts (initSlave ten address has second general stretching) block [] a in init-slave-runs ten address has second general stretching block (p .size) (p .known) (p .own)) a
+runs (listen chip) block bytes e a =
+    at-nothing (listen chip) block bytes e
+    (λ a. let p = parts (listen chip) block [] a in unread-runs chip Listen [] (omega arith) block (p .size) (p .known)) a
+runs (respondToWrite chip) block bytes e a =
+    let p = parts (respondToWrite chip) block bytes a in
+    response-runs chip RespondToWrite (slaveLent.lentWith [] (length bytes)) (small (length bytes) (p .own)) block bytes (p .size) (p .known) refl
+runs (respondToRead chip reply) block bytes e a =
+    at-nothing (respondToRead chip reply) block bytes e
+    (λ a. let p = parts (respondToRead chip reply) block [] a in unread-runs chip RespondToRead reply (small (length reply) (p .own)) block (p .size) (p .known)) a
+
+-- ---- it is layer 1's
+
+timed-rust : (chip input frequency duty : ℕ) (x : Timed) → timing (chipOf chip) input frequency (cInit.dutyOf duty) ≡ x → (turns : ℕ) (answers : List ℕ) → length answers < turns
+    → shownTimed chip x answers ≡ rustTimed chip turns x answers
+timed-rust chip input frequency duty (timed.At t) q turns answers h = init-is-the-rust (chipOf chip) input frequency (cInit.dutyOf duty) t q .same answers turns h
+timed-rust chip input frequency duty (timed.Refused e) q turns answers h = refl
+
+shown-rust : (c : Call) (room : ℕ) → NoneAdded c room → (turns : ℕ) (answers : List ℕ) → length answers < turns → shownBy c room answers ≡ rust turns c room answers
+shown-rust (init chip input frequency duty) room q turns answers h = timed-rust chip input frequency duty (timing (chipOf chip) input frequency (cInit.dutyOf duty)) refl turns answers h
+shown-rust (transaction chip address list written) room q turns answers h = master-is-the-rust .same (callOf chip address kind.Transaction) (lentWith list written room) q turns answers h
+shown-rust (writeRead chip address written) room q turns answers h = master-is-the-rust .same (callOf chip address kind.WriteRead) (lentWith [] written room) q turns answers h
+shown-rust (write chip address option written) room q turns answers h = master-is-the-rust .same (callOf chip address (kind.Write (frameOptionsOf option))) (lentWith [] written 0) q turns answers h
+shown-rust (read chip address option) room q turns answers h = master-is-the-rust .same (callOf chip address (kind.Read (frameOptionsOf option))) (lentWith [] [] room) q turns answers h
+shown-rust (initSlave ten address has second general stretching) room q turns answers h = slave-is-the-rust .init (cInitSlave.configOf ten address has second general stretching) turns answers h
+shown-rust (listen chip) room q turns answers h = slave-is-the-rust .same (chipOf chip) Listen (slaveLent.lentWith [] 0) (omega arith) turns answers h
+shown-rust (respondToWrite chip) room q turns answers h = slave-is-the-rust .same (chipOf chip) RespondToWrite (slaveLent.lentWith [] room) q turns answers h
+shown-rust (respondToRead chip reply) room q turns answers h = slave-is-the-rust .same (chipOf chip) RespondToRead (slaveLent.lentWith reply 0) q turns answers h
+
+-- an accepted call has no added cause
+none-added : (c : Call) (room : ℕ) → ownRefusal c room ≡ none → NoneAdded c room
+none-added (init chip input frequency duty) room q = q
+none-added (transaction chip address list written) room q = master-is-the-rust .covers (callOf chip address kind.Transaction) (lentWith list written room) q
+none-added (writeRead chip address written) room q = master-is-the-rust .covers (callOf chip address kind.WriteRead) (lentWith [] written room) q
+none-added (write chip address option written) room q = master-is-the-rust .covers (callOf chip address (kind.Write (frameOptionsOf option))) (lentWith [] written 0) q
+none-added (read chip address option) room q = master-is-the-rust .covers (callOf chip address (kind.Read (frameOptionsOf option))) (lentWith [] [] room) q
+none-added (initSlave ten address has second general stretching) room q = tt
+none-added (listen chip) room q = tt
+none-added (respondToWrite chip) room q = small room q
+none-added (respondToRead chip reply) room q = small (length reply) q
+
+accepted-rust : (c : Call) (block bytes : List ℕ) → Accepted c block bytes → (turns : ℕ) (answers : List ℕ) → length answers < turns → shownBy c (length bytes) answers ≡ rust turns c (length bytes) answers
+accepted-rust c block bytes a turns answers h = shown-rust c (length bytes) (none-added c (length bytes) (parts c block bytes a .own)) turns answers h
+
+-- a refused call shows its refusal
+call-refused : (c : master.Call) (l : Lent) (e : Error) → refusal c l ≡ some e → (answers : List ℕ) → callShown c l answers ≡ noMore (some (failed e))
+unfolding callShown
+call-refused c l e q answers = ap (λ (o : Option Error). seenAfter o c l answers) q
+
+timed-refused : (chip : ℕ) (x : Timed) (e : Error) → timedRefusal x ≡ some e → (answers : List ℕ) → shownTimed chip x answers ≡ noMore (some (failed e))
+timed-refused chip (timed.At t) e q answers = let z : _≡_ {A = ℕ} 0 1 = cc in absurd (omega arith)
+timed-refused chip (timed.Refused f) e q answers = let z : f ≡ e = cc in ap (λ (x : Error). noMore (some (failed x))) z
+
+init-slave-refused : (c : SlaveConfig) (e : Error) → initSlaveMachine.initRefusal c ≡ some e → (answers : List ℕ) → initShown c answers ≡ noMore (some (failed e))
+unfolding initShown
+init-slave-refused c e q answers = ap (λ (o : Option Error). slaveCalls.seenAfter o (shownFrom initSlaveMachine.initMachine [] (initSlaveMachine.started c) answers)) q
+
+slave-refused : (chip : ℕ) (x : slave.Kind) (l : SlaveLent) (e : Error) → sizeRefusal (sizeOf x l) ≡ some e → (answers : List ℕ) → slaveShown (chipOf chip) x l answers ≡ noMore (some (failed e))
+unfolding slaveShown
+slave-refused chip x l e q answers = ap (λ (o : Option Error). slaveCalls.seenAfter o (shownFrom (slaveMachine.slave (slaveCalls.settingOf (chipOf chip) x l)) (slaveCalls.bytesOf x l) (slaveMachine.start x) answers)) q
+
+shown-refused : (c : Call) (room : ℕ) (e : Error) → ownRefusal c room ≡ some e → (answers : List ℕ) → shownBy c room answers ≡ noMore (some (failed e))
+shown-refused (init chip input frequency duty) room e q answers = timed-refused chip (timing (chipOf chip) input frequency (cInit.dutyOf duty)) e q answers
+shown-refused (transaction chip address list written) room e q answers = call-refused (callOf chip address kind.Transaction) (lentWith list written room) e q answers
+shown-refused (writeRead chip address written) room e q answers = call-refused (callOf chip address kind.WriteRead) (lentWith [] written room) e q answers
+shown-refused (write chip address option written) room e q answers = call-refused (callOf chip address (kind.Write (frameOptionsOf option))) (lentWith [] written 0) e q answers
+shown-refused (read chip address option) room e q answers = call-refused (callOf chip address (kind.Read (frameOptionsOf option))) (lentWith [] [] room) e q answers
+shown-refused (initSlave ten address has second general stretching) room e q answers = init-slave-refused (cInitSlave.configOf ten address has second general stretching) e q answers
+shown-refused (listen chip) room e q answers = let z : _≡_ {A = ℕ} 0 1 = cc in absurd (omega arith)
+shown-refused (respondToWrite chip) room e q answers = slave-refused chip RespondToWrite (slaveLent.lentWith [] room) e q answers
+shown-refused (respondToRead chip reply) room e q answers = slave-refused chip RespondToRead (slaveLent.lentWith reply 0) e q answers
+
+-- ---- begin refuses with the first cause
+
+refused-by : (t u : Bool) (own : Option Error) (accepted : Left) (b r : List ℕ) (e : Error) → (own ≡ some e → accepted ≡ refusedWith e b r)
+    → refuse (not t) InvalidState (refuse u InvalidArgument own) ≡ some e → cond t (cond u (refusedWith InvalidArgument b r) accepted) (refusedWith InvalidState b r) ≡ refusedWith e b r
+refused-by false u own accepted b r e h q = let z : InvalidState ≡ e = cc in ap (λ (x : Error). refusedWith x b r) z
+refused-by true true own accepted b r e h q = let z : InvalidArgument ≡ e = cc in ap (λ (x : Error). refusedWith x b r) z
+refused-by true false own accepted b r e h q = h q
+
+transfer-refuses : (u : Bool) (c : master.Call) (b : List ℕ) (l : Lent) (r : List ℕ) (e : Error) → refuse (not (eqb (length b) blockSize)) InvalidState (refuse u InvalidArgument (refusal c l)) ≡ some e
+    → masterBegin u c b l r ≡ refusedWith e b r
+unfolding masterBegin masterSteps.begin
+transfer-refuses u c b l r e q =
+    refused-by (eqb (length b) blockSize) u (refusal c l) (cTransfer.begunLeft (masterSteps.begin c l) b r) b r e (λ k. ap (λ (o : Option Error). cTransfer.begunLeft (masterSteps.begunWith o c l) b r) k) q
+
+response-refuses : (x : slave.Kind) (b : List ℕ) (chip : ℕ) (reply r : List ℕ) (e : Error)
+    → refuse (not (eqb (length b) blockSize)) InvalidState (refuse (ltb 3 chip) InvalidArgument (sizeRefusal (sizeOf x (slaveLent.lentWith reply (length r))))) ≡ some e
+    → cResponse.slaveBegin x b chip reply r ≡ refusedWith e b r
+unfolding cResponse.slaveBegin slaveSteps.begin
+response-refuses x b chip reply r e q =
+    let l = slaveLent.lentWith reply (length r) in
+    refused-by (eqb (length b) blockSize) (ltb 3 chip) (sizeRefusal (sizeOf x l)) (cResponse.begunLeft (slaveSteps.begin (chipOf chip) x l) b r) b r e
+    (λ k. ap (λ (o : Option Error). cResponse.begunLeft (slaveSteps.begunWith o (slaveCalls.settingOf (chipOf chip) x l) (slaveCalls.bytesOf x l)) b r) k) q
+
+timed-left : (chip : ℕ) (x : Timed) (b : List ℕ) (e : Error) → timedRefusal x ≡ some e → cInit.begunLeft (initMachine.begunAt (chipOf chip) x) b ≡ refusedWith e b []
+timed-left chip (timed.At t) b e q = let z : _≡_ {A = ℕ} 0 1 = cc in absurd (omega arith)
+timed-left chip (timed.Refused f) b e q = let z : f ≡ e = cc in ap (λ (x : Error). refusedWith x b []) z
+
+init-refuses : (chip input frequency duty : ℕ) (b : List ℕ) (e : Error) → refusalOf (init chip input frequency duty) (length b) 0 ≡ some e → cInit.initBegin b chip input frequency duty ≡ refusedWith e b []
+unfolding cInit.initBegin initMachine.begin
+init-refuses chip input frequency duty b e q =
+    refused-by (eqb (length b) blockSize) (ltb 3 chip || ltb 1 duty) (timedRefusal (timing (chipOf chip) input frequency (cInit.dutyOf duty))) (cInit.begunLeft (initMachine.begin (chipOf chip) input frequency (cInit.dutyOf duty)) b) b [] e
+    (timed-left chip (timing (chipOf chip) input frequency (cInit.dutyOf duty)) b e) q
+
+init-slave-refuses : (ten address has second general stretching : ℕ) (b : List ℕ) (e : Error) → refusalOf (initSlave ten address has second general stretching) (length b) 0 ≡ some e
+    → cInitSlave.initSlaveBegin b ten address has second general stretching ≡ refusedWith e b []
+unfolding cInitSlave.initSlaveBegin initSlaveMachine.begin
+init-slave-refuses ten address has second general stretching b e q =
+    let c = cInitSlave.configOf ten address has second general stretching in
+    refused-by (eqb (length b) blockSize) (cInitSlave.unknownFlags ten has general stretching) (initSlaveMachine.initRefusal c) (cInitSlave.begunLeft (initSlaveMachine.begin c) b) b [] e
+    (λ k. ap (λ (o : Option Error). cInitSlave.begunLeft (initSlaveMachine.begunWith o c) b) k) q
+
+-- where nothing is lent to read
+nothing-lent : (e : Error) (b bytes : List ℕ) (h : Left) → bytes ≡ [] → h ≡ refusedWith e b [] → h ≡ refusedWith e b bytes
+nothing-lent e b bytes h q k = k ∙ ap (λ (r : List ℕ). refusedWith e b r) (sym q)
+
+refuses : (c : Call) (block bytes : List ℕ) → Reads c bytes → (e : Error) → refusalOf c (length block) (length bytes) ≡ some e → entryOf c .begin block bytes ≡ refusedWith e block bytes
+refuses (init chip input frequency duty) b r k e q = nothing-lent e b r _ k (init-refuses chip input frequency duty b e q)
+refuses (transaction chip address list written) b r k e q = transfer-refuses (ltb 3 chip) (callOf chip address kind.Transaction) b (lentWith list written (length r)) r e q
+refuses (writeRead chip address written) b r k e q = transfer-refuses (ltb 3 chip) (callOf chip address kind.WriteRead) b (lentWith [] written (length r)) r e q
+refuses (write chip address option written) b r k e q = nothing-lent e b r _ k (transfer-refuses (ltb 3 chip || ltb 5 option) (callOf chip address (kind.Write (frameOptionsOf option))) b (lentWith [] written 0) [] e q)
+refuses (read chip address option) b r k e q = transfer-refuses (ltb 3 chip || ltb 5 option) (callOf chip address (kind.Read (frameOptionsOf option))) b (lentWith [] [] (length r)) r e q
+refuses (initSlave ten address has second general stretching) b r k e q = nothing-lent e b r _ k (init-slave-refuses ten address has second general stretching b e q)
+refuses (listen chip) b r k e q = nothing-lent e b r _ k (response-refuses Listen b chip [] [] e q)
+refuses (respondToWrite chip) b r k e q = response-refuses RespondToWrite b chip [] r e q
+refuses (respondToRead chip reply) b r k e q = nothing-lent e b r _ k (response-refuses RespondToRead b chip reply [] e q)
+
+-- ---- a step that is not taken
+
+stopped : (b bytes : List ℕ) (h : Left) → bytes ≡ [] → h ≡ refusedWith InvalidState b [] → h ≡ refusedWith InvalidState b bytes
+stopped b bytes h q k = nothing-lent InvalidState b bytes h q k
+
+stops : (c : Call) (block bytes : List ℕ) → Reads c bytes → Bytes block → takes c block bytes ≡ false → (a : ℕ) → entryOf c .step block bytes a ≡ refusedWith InvalidState block bytes
+stops (init chip input frequency duty) b r k w q a = stopped b r _ k (init-stops b a w q)
+stops (transaction chip address list written) b r k w q a = master-stops transactionEntry b list written r a w q
+stops (writeRead chip address written) b r k w q a = master-stops writeReadEntry b [] written r a w q
+stops (write chip address option written) b r k w q a = stopped b r _ k (master-stops writeEntry b [] written [] a w q)
+stops (read chip address option) b r k w q a = master-stops readEntry b [] [] r a w q
+stops (initSlave ten address has second general stretching) b r k w q a = stopped b r _ k (init-slave-stops b a w q)
+stops (listen chip) b r k w q a = stopped b r _ k (slave-stops listenEntry b [] [] a w q)
+stops (respondToWrite chip) b r k w q a = slave-stops respondToWriteEntry b [] r a w q
+stops (respondToRead chip reply) b r k w q a = stopped b r _ k (slave-stops respondToReadEntry b reply [] a w q)
+
+-- ---- demands 1 and 2
+
+pub demand-1 : Demand1
+demand-1 =
+    record {
+      tells = number-injective;
+      refuses = refuses;
+      stops = stops;
+      ends =
+          λ c block bytes k a answers.
+          let r = runs c block bytes k a in
+          subst IsMet (sym (end-is (entryOf c) block bytes answers (shownBy c (length bytes) answers) (r .makes answers) (r .recorded answers))) (r .met answers);
+    }
+
+pub demand-2 : Demand2
+demand-2 =
+    record {
+      same =
+          λ c block bytes k a turns answers h.
+          subst (λ (s : Shown). Makes (entryOf c) block bytes answers s) (accepted-rust c block bytes a turns answers h) (runs c block bytes k a .makes answers);
+      refused = λ c room n e q turns answers h. sym (shown-rust c room n turns answers h) ∙ shown-refused c room e q answers;
+      joins = runs-join;
+    }
+
+-- ---- demand 3
+
+taken-fewer : (i : ℕ) (xs : List ℕ) (turns : ℕ) → length xs < turns → length (take i xs) < turns
+taken-fewer i xs turns q = omega (arith, length-take i xs, q)
+
+module _ (c : Call) (block bytes : List ℕ) (k : Reads c bytes) (a : Accepted c block bytes) where
+  struck-shown : (turns : ℕ) (answers : List ℕ) → length answers < turns → struckAfter turns c block bytes answers ≡ map asSeen (struck (shownBy c (length bytes) answers))
+  struck-shown turns answers h =
+      let r = runs c block bytes k a in
+      ap (λ (s : Shown). struckBy (s .events) (recordAfter c block bytes answers)) (sym (accepted-rust c block bytes a turns answers h))
+      ∙ struck-is (entryOf c) block bytes answers (shownBy c (length bytes) answers) (r .makes answers) (r .recorded answers)
+
+  end-shown : (answers : List ℕ) → endAfter c block bytes answers ≡ shownBy c (length bytes) answers .end
+  end-shown answers = let r = runs c block bytes k a in end-is (entryOf c) block bytes answers (shownBy c (length bytes) answers) (r .makes answers) (r .recorded answers)
+
+  record-shown : (answers : List ℕ) → recordAfter c block bytes answers ≡ map seenOf (shownBy c (length bytes) answers .events)
+  record-shown answers = let r = runs c block bytes k a in record-is (entryOf c) block bytes answers (shownBy c (length bytes) answers) (r .makes answers) (r .recorded answers)
+
+module _ (Alike : Ending → Ending → Type 0) (c₁ c₂ : Call) (b₁ r₁ b₂ r₂ : List ℕ) (k₁ : Reads c₁ r₁) (k₂ : Reads c₂ r₂) (a₁ : Accepted c₁ b₁ r₁) (a₂ : Accepted c₂ b₂ r₂) where
+  seen-alike : (turns : ℕ) (xs ys : List ℕ) → length xs < turns → length ys < turns
+      → ((i : ℕ) → SameStruck Alike (shownBy c₁ (length r₁) (take i xs)) (shownBy c₂ (length r₂) (take i ys))) → SeenAlike Alike turns c₁ c₂ b₁ r₁ b₂ r₂ xs ys
+  seen-alike turns xs ys p q s =
+      record {
+        records =
+            λ i.
+            struck-shown c₁ b₁ r₁ k₁ a₁ turns (take i xs) (taken-fewer i xs turns p)
+            ∙ ap (map asSeen) (s i .records)
+            ∙ sym (struck-shown c₂ b₂ r₂ k₂ a₂ turns (take i ys) (taken-fewer i ys turns q));
+        ends =
+            λ i.
+            subst (λ (x : Option Ending). EndsAlike Alike x (endAfter c₂ b₂ r₂ (take i ys))) (sym (end-shown c₁ b₁ r₁ k₁ a₁ (take i xs)))
+            (subst (λ (y : Option Ending). EndsAlike Alike (shownBy c₁ (length r₁) (take i xs) .end) y) (sym (end-shown c₂ b₂ r₂ k₂ a₂ (take i ys))) (s i .ends));
+      }
+
+-- transfers whose runs agree
+compared : (c : master.Call) (l₁ l₂ : Lent) → refusal c l₁ ≡ none → refusal c l₂ ≡ none → spansOf (c .kind) l₁ ≡ spansOf (c .kind) l₂ → Comparable c l₁ l₂
+compared c l₁ l₂ p q e = record { first = p; second = q; runs = e }
+
+runs-agree : {c₁ c₂ : Call} {n m : ℕ} → SameRuns c₁ n c₂ m → ownRefusal c₁ n ≡ none → ownRefusal c₂ m ≡ none → (xs ys : List ℕ) → DifferInPayload (shownBy c₁ n xs .events) xs ys
+    → (i : ℕ) → SameStruck Same (shownBy c₁ n (take i xs)) (shownBy c₂ m (take i ys))
+runs-agree (transactions {chip} {address} {list₁} {written₁} {list₂} {written₂} {n} {m} e) p q xs ys d i =
+    let c = callOf chip address kind.Transaction in
+    master-is-secret .hidden c (lentWith list₁ written₁ n) (lentWith list₂ written₂ m) (compared c (lentWith list₁ written₁ n) (lentWith list₂ written₂ m) p q e) xs ys d i
+runs-agree (writeReads {chip} {address} {written₁} {written₂} {n} e) p q xs ys d i =
+    let c = callOf chip address kind.WriteRead in
+    master-is-secret .hidden c (lentWith [] written₁ n) (lentWith [] written₂ n)
+    (compared c (lentWith [] written₁ n) (lentWith [] written₂ n) p q (ap (λ (x : ℕ). spansBy kind.WriteRead [] x n) e)) xs ys d i
+runs-agree (writes {chip} {address} {option} {written₁} {written₂} {n} {m} e) p q xs ys d i =
+    let c = callOf chip address (kind.Write (frameOptionsOf option)) in
+    master-is-secret .hidden c (lentWith [] written₁ 0) (lentWith [] written₂ 0)
+    (compared c (lentWith [] written₁ 0) (lentWith [] written₂ 0) p q (ap (λ (x : ℕ). spansBy (kind.Write (frameOptionsOf option)) [] x 0) e)) xs ys d i
+runs-agree (reads {chip} {address} {option} {n}) p q xs ys d i =
+    let c = callOf chip address (kind.Read (frameOptionsOf option)) in
+    master-is-secret .hidden c (lentWith [] [] n) (lentWith [] [] n) (compared c (lentWith [] [] n) (lentWith [] [] n) p q refl) xs ys d i
+
+whole-agree : {c₁ c₂ : Call} {n m : ℕ} → SameRuns c₁ n c₂ m → ownRefusal c₁ n ≡ none → ownRefusal c₂ m ≡ none → writtenBy c₁ ≡ writtenBy c₂ → (answers : List ℕ) → shownBy c₁ n answers ≡ shownBy c₂ m answers
+whole-agree (transactions {chip} {address} {list₁} {written₁} {list₂} {written₂} {n} {m} e) p q w answers =
+    let c = callOf chip address kind.Transaction in
+    master-is-secret .determined c (lentWith list₁ written₁ n) (lentWith list₂ written₂ m) (compared c (lentWith list₁ written₁ n) (lentWith list₂ written₂ m) p q e) w answers
+whole-agree (writeReads {chip} {address} {written₁} {written₂} {n} e) p q w answers = ap (λ (x : List ℕ). callShown (callOf chip address kind.WriteRead) (lentWith [] x n) answers) w
+whole-agree (writes {chip} {address} {option} {written₁} {written₂} {n} {m} e) p q w answers =
+    ap (λ (x : List ℕ). callShown (callOf chip address (kind.Write (frameOptionsOf option))) (lentWith [] x 0) answers) w
+whole-agree (reads {chip} {address} {option} {n}) p q w answers = refl
+
+pub demand-3 : Demand3
+demand-3 =
+    record {
+      transfers =
+          λ c₁ c₂ b₁ r₁ b₂ r₂ s k₁ k₂ a₁ a₂ turns xs ys p q d.
+          seen-alike Same c₁ c₂ b₁ r₁ b₂ r₂ k₁ k₂ a₁ a₂ turns xs ys p q
+          (runs-agree s (parts c₁ b₁ r₁ a₁ .own) (parts c₂ b₂ r₂ a₂ .own) xs ys (subst (λ (t : Shown). DifferInPayload (t .events) xs ys) (sym (accepted-rust c₁ b₁ r₁ a₁ turns xs p)) d));
+      transfers-whole =
+          λ c₁ c₂ b₁ r₁ b₂ r₂ s k₁ k₂ a₁ a₂ w answers.
+          record-shown c₁ b₁ r₁ k₁ a₁ answers
+          ∙ ap (λ (t : Shown). map seenOf (t .events)) (whole-agree s (parts c₁ b₁ r₁ a₁ .own) (parts c₂ b₂ r₂ a₂ .own) w answers)
+          ∙ sym (record-shown c₂ b₂ r₂ k₂ a₂ answers);
+      receives =
+          λ chip b₁ r₁ b₂ r₂ e a₁ a₂ turns xs ys p q d.
+          seen-alike Same (respondToWrite chip) (respondToWrite chip) b₁ r₁ b₂ r₂ tt tt a₁ a₂ turns xs ys p q
+          (slave-is-secret .received (chipOf chip) (slaveLent.lentWith [] (length r₁)) (slaveLent.lentWith [] (length r₂)) (small (length r₁) (parts (respondToWrite chip) b₁ r₁ a₁ .own)) e xs ys
+          (subst (λ (t : Shown). DifferInPayload (t .events) xs ys) (sym (accepted-rust (respondToWrite chip) b₁ r₁ a₁ turns xs p)) d));
+      receives-whole =
+          λ chip b₁ r₁ b₂ r₂ e a₁ a₂ answers.
+          record-shown (respondToWrite chip) b₁ r₁ tt a₁ answers
+          ∙ ap (λ (t : Shown). map seenOf (t .events)) (slave-is-secret .determined (chipOf chip) (slaveLent.lentWith [] (length r₁)) (slaveLent.lentWith [] (length r₂)) e answers)
+          ∙ sym (record-shown (respondToWrite chip) b₂ r₂ tt a₂ answers);
+      replies =
+          λ chip x y b₁ b₂ a₁ a₂ turns answers p.
+          seen-alike Any (respondToRead chip x) (respondToRead chip y) b₁ [] b₂ [] refl refl a₁ a₂ turns answers answers p p
+          (slave-is-secret .replied (chipOf chip) (slaveLent.lentWith x 0) (slaveLent.lentWith y 0) (small (length x) (parts (respondToRead chip x) b₁ [] a₁ .own)) (small (length y) (parts (respondToRead chip y) b₂ [] a₂ .own)) answers);
+      replies-of-one-length =
+          λ chip x y b₁ b₂ e a₁ a₂ turns answers p.
+          seen-alike Same (respondToRead chip x) (respondToRead chip y) b₁ [] b₂ [] refl refl a₁ a₂ turns answers answers p p
+          (slave-is-secret .replied-alike (chipOf chip) (slaveLent.lentWith x 0) (slaveLent.lentWith y 0) (small (length x) (parts (respondToRead chip x) b₁ [] a₁ .own)) e answers);
+    }
