@@ -15,3 +15,5 @@ pub mod ResponseMet
 pub mod CallsRun
 pub mod Stops
 pub mod Demands
+pub mod Edges
+pub mod Examples

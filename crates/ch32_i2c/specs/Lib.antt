@@ -5,3 +5,4 @@ pub mod InitSlave
 pub mod Response
 pub mod Fed
 pub mod Demands
+pub mod Edges

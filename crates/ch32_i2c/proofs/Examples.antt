@@ -1,0 +1,82 @@
+-- The demands speak of something: calls that are accepted, and what comes of them, by computation.
+-- Assumes nothing.
+use mathlib.Core.Path.{_≡_, refl}
+use mathlib.Core.List.{List, [], _∷_}
+use Prim.Native.Nat.{ℕ, _+_}
+use native.Mathlib.Omega.{arith}
+use lib.ListN.{replicate, length, take}
+use Rattle.registers.specs.Word.{hasBit, putBit, fieldOf, putField}
+use Rattle.registers.specs.Flags.{errorFlags, clearError}
+use Rattle.registers.specs.Addresses.{addressWord}
+use Rattle.access.specs.Program.{checkTimeout, late}
+use Rattle.access.specs.Record.{DifferInPayload, Same}
+use Rattle.operations.specs.Operations.{operationsOf, shaped}
+use Rattle.operations.specs.Runs.{runsOf, runsFrom}
+use Rattle.operations.specs.Search.{faultFrom}
+use Rattle.master.specs.Calls.{refusal, rustWith}
+use Rattle.master.specs.Rust as rust
+use Rattle.slave.specs.Calls.{rustSlave}
+use Rattle.slave.specs.Rust as slave
+use Rattle.slave.specs.Claims.{Any}
+use Rattle.ch32_i2c.specs.Demands.{Call, transaction, respondToWrite, respondToRead, Accepted, SameRuns, transactions, SeenAlike}
+use Rattle.ch32_i2c.specs.Demands as demands
+use Rattle.ch32_i2c.proofs.Demands.{demand-3}
+
+-- two blocks, whatever they held before
+abbrev zeros : List ℕ
+zeros = replicate 32 0
+
+abbrev ones : List ℕ
+ones = replicate 32 255
+
+-- ---- two transactions of the same runs, divided differently: two writes of one byte and a read of two; a write of two bytes, an empty
+-- write and two reads of one
+
+abbrev first : Call
+first = transaction 0 0x50 (0 ∷ 1 ∷ 0 ∷ 0 ∷ 1 ∷ 0 ∷ 1 ∷ 2 ∷ 0 ∷ []) (1 ∷ 2 ∷ [])
+
+abbrev second : Call
+second = transaction 0 0x50 (0 ∷ 2 ∷ 0 ∷ 0 ∷ 0 ∷ 0 ∷ 1 ∷ 1 ∷ 0 ∷ 1 ∷ 1 ∷ 0 ∷ []) (7 ∷ 8 ∷ [])
+
+first-accepted : Accepted first zeros (0 ∷ 0 ∷ [])
+unfolding refusal shaped faultFrom operationsOf runsOf runsFrom
+first-accepted = refl
+
+second-accepted : Accepted second ones (9 ∷ 9 ∷ [])
+unfolding refusal shaped faultFrom operationsOf runsOf runsFrom
+second-accepted = refl
+
+same-runs : SameRuns first 2 second 2
+unfolding operationsOf runsOf runsFrom
+same-runs = transactions refl
+
+-- answers until both bytes are sent
+abbrev sending : List ℕ
+sending = 0 ∷ 0 ∷ 0 ∷ 0 ∷ 0 ∷ 1 ∷ 0 ∷ 1 ∷ 0 ∷ 2 ∷ 0 ∷ 0x80 ∷ 0 ∷ 4 ∷ 0x80 ∷ 0 ∷ 4 ∷ []
+
+sending-alike : DifferInPayload (demands.rust 18 first 2 sending .events) sending sending
+unfolding rustWith operationsOf rust.blocking-transaction rust.validate-address rust.validate-operations rust.validate-from rust.transact rust.write-group rust.write-bytes rust.start-and-address rust.launch-start rust.wait-stop-finished rust.wait-flag rust.check-and-clear-error-flags rust.send-byte rust.abort-transfer rust.finish-transfer rust.generate-stop rust.checked-add hasBit putBit fieldOf putField errorFlags clearError addressWord checkTimeout late
+sending-alike = (refl, (refl, (refl, (refl, (refl, (refl, (refl, (refl, (refl, (refl, (refl, (refl, (refl, (refl, (refl, (refl, (refl, tt)))))))))))))))))
+
+transfers-alike : SeenAlike Same 18 first second zeros (0 ∷ 0 ∷ []) ones (9 ∷ 9 ∷ []) sending sending
+transfers-alike = demand-3 .transfers first second zeros (0 ∷ 0 ∷ []) ones (9 ∷ 9 ∷ []) same-runs tt tt first-accepted second-accepted 18 sending sending (omega arith) (omega arith) sending-alike
+
+-- ---- two receives of one length that get other bytes: RXNE twice, the second byte past the buffer, then ADDR
+
+abbrev xs : List ℕ
+xs = 0x40 ∷ 0x11 ∷ 0x40 ∷ 0x22 ∷ 2 ∷ []
+
+abbrev ys : List ℕ
+ys = 0x40 ∷ 0x99 ∷ 0x40 ∷ 0 ∷ 2 ∷ []
+
+received-differ : DifferInPayload (demands.rust 6 (respondToWrite 0) 1 xs .events) xs ys
+unfolding rustSlave slave.blocking-respond-to-write slave.clear-stopf hasBit errorFlags
+received-differ = (refl, (tt, (refl, (tt, (refl, tt)))))
+
+receives-alike : SeenAlike Same 6 (respondToWrite 0) (respondToWrite 0) zeros (0 ∷ []) ones (5 ∷ []) xs ys
+receives-alike = demand-3 .receives 0 zeros (0 ∷ []) ones (5 ∷ []) refl refl refl 6 xs ys (omega arith) (omega arith) received-differ
+
+-- ---- two replies of other bytes and lengths, and any answers
+
+replies-alike : (answers : List ℕ) → SeenAlike Any (length answers + 1) (respondToRead 3 (1 ∷ 2 ∷ [])) (respondToRead 3 (7 ∷ [])) zeros [] ones [] answers answers
+replies-alike answers = demand-3 .replies 3 (1 ∷ 2 ∷ []) (7 ∷ []) zeros ones refl refl (length answers + 1) answers (omega arith)
