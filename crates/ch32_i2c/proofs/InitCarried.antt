@@ -2,9 +2,8 @@
 -- Assumes nothing.
 use mathlib.Core.Path.{_≡_, refl, ap, sym, _∙_}
 use mathlib.Core.Bool.{Bool, true, false, cond}
-use mathlib.Core.List.{List, [], _∷_}
+use mathlib.Core.List.{List, []}
 use Prim.Native.Nat.{ℕ}
-use native.Mathlib.Omega.{arith}
 use lib.ListN.{length}
 use Rattle.access.specs.declared.ending.Error.the-variants.{InvalidState}
 use Rattle.access.specs.declared.need.Need.{Need}
@@ -24,16 +23,11 @@ use Rattle.ch32_i2c.specs.Init as init
 use Rattle.ch32_i2c.specs.InitSlave as initSlave
 use Rattle.ch32_i2c.specs.Fed.{Entry}
 use Rattle.ch32_i2c.proofs.HeldLaws.{init-held, init-slave-held}
-use Rattle.ch32_i2c.proofs.Carried.{Carries}
+use Rattle.ch32_i2c.proofs.Carried.{Carries, nothing-read}
 
 -- every state fits where nothing is lent
 abbrev pub Any : {S : Type 0} → S → Type 0
 Any s = Unit {0}
-
--- nothing is read
-nothing-read : (r : List ℕ) → length r ≡ 0 → r ≡ []
-nothing-read [] e = refl
-nothing-read (x ∷ r) e = absurd (omega (arith, e))
 
 kept-nothing : (n : Need) (a : ℕ) → [] ≡ kept n a []
 kept-nothing (need.Read x) a = refl

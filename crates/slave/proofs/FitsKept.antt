@@ -51,7 +51,7 @@ seven-below : (w : ℕ) → fieldOf «ADD7_1» w < 128
 unfolding fieldOf
 seven-below w = omega arith
 
-second-below : (w : ℕ) → fieldOf ADD2 w < 128
+pub second-below : (w : ℕ) → fieldOf ADD2 w < 128
 unfolding fieldOf
 second-below w = omega arith
 
@@ -64,7 +64,7 @@ kind-below GeneralCall = omega arith
 kind-below Read = omega arith
 kind-below Write = omega arith
 
-own-below : (w : ℕ) → addressNumber (ownAddress w) < 2048
+pub own-below : (w : ℕ) → addressNumber (ownAddress w) < 2048
 own-below w = chosen (λ (a : SlaveAddress). addressNumber a < 2048) (hasBit ADDMODE w) (λ _. omega (arith, ten-below w)) (λ _. omega (arith, seven-below w))
 
 command-below : (k : SlaveCommandKind) (n : ℕ) → n < 2048 → n + kindNumber k * 4096 < 12288

@@ -6,16 +6,15 @@ use Prim.Native.Nat.{ℕ, suc, _+_, _≤_, _<_}
 use native.Mathlib.Omega.{arith}
 use borrow.Author.Tests.{lt-ltb, le-ltb, lt-leb, le-leb, leb-true}
 use lib.Dec.{leb, ltb}
-use Rattle.registers.specs.Bits.{ADDMODE}
-use Rattle.registers.specs.Fields.{«ADD9_0», «ADD7_1», ADD2}
-use Rattle.registers.specs.Word.{hasBit, fieldOf}
-use Rattle.access.proofs.Choice.{chosen}
+use Rattle.registers.specs.Fields.{ADD2}
+use Rattle.registers.specs.Word.{fieldOf}
 use Rattle.slave.specs.declared.config.SlaveAddress.{SlaveAddress}
 use Rattle.slave.specs.declared.state.Kind.{Kind}
 use Rattle.slave.specs.declared.state.Kind.the-variants.{RespondToWrite}
 use Rattle.slave.specs.Numbers.{addressNumber}
 use Rattle.slave.specs.Machine.{ownAddress}
 use Rattle.slave.specs.Fits.{limit}
+use Rattle.slave.proofs.FitsKept as kept
 
 -- ---- counts
 
@@ -38,18 +37,7 @@ few-stored x size n e h = leb-true n size (subst (λ (x : Kind). leb n (limit x 
 -- ---- a command
 
 pub second-below : (w n : ℕ) → n ≡ fieldOf ADD2 w → n < 2048
-unfolding fieldOf
-second-below w n e = omega arith
-
-seven-below : (w : ℕ) → fieldOf «ADD7_1» w < 2048
-unfolding fieldOf
-seven-below w = omega arith
-
-ten-below : (w : ℕ) → fieldOf «ADD9_0» w < 1024
-unfolding fieldOf
-ten-below w = omega arith
+second-below w n e = omega (arith, e, kept.second-below w)
 
 pub own-below : (w : ℕ) (a : SlaveAddress) → a ≡ ownAddress w → addressNumber a < 2048
-own-below w a e =
-    subst (λ (a : SlaveAddress). addressNumber a < 2048) (sym e)
-    (chosen (λ (a : SlaveAddress). addressNumber a < 2048) (hasBit ADDMODE w) (λ _. omega (arith, ten-below w)) (λ _. seven-below w))
+own-below w a e = subst (λ (a : SlaveAddress). addressNumber a < 2048) (sym e) (kept.own-below w)
