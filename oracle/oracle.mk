@@ -91,7 +91,7 @@ compare-faults: $(FAULT_RESULTS) $(LIBRARY_RESULTS)
 	@echo "$(words $(FAULTS)) faults planted in the Rust and $(words $(LIBRARY_FAULTS)) in the library, all found"
 
 # The stored sample, chosen anew.
-SAMPLE ?= oracle/sample.bin
+SAMPLE ?= crates/replay/data/sample.bin
 SAMPLE_DETAIL ?= ways
 sample: $(ORACLE)/oracle
 	$(ORACLE)/oracle sample $(SAMPLE) $(SEED) 3000 $(SAMPLE_DETAIL)

@@ -1,0 +1,52 @@
+// The nine entries of the library by a stored call's number.
+use crate::stored::Call;
+use ch32_i2c::init;
+use ch32_i2c::init_slave;
+use ch32_i2c::response;
+use ch32_i2c::transfer;
+
+pub fn begin(call: Call, block: &mut [u8], list: &[u8], written: &[u8], read: &mut [u8]) -> u64 {
+    let chip = call.chip;
+    let target = call.target;
+    let entry = call.entry;
+    match entry {
+        0 => init::ch32_i2c_init_begin(block, chip, call.input, call.frequency, call.duty),
+        1 => transfer::ch32_i2c_transaction_begin(block, chip, target, list, written, read),
+        2 => transfer::ch32_i2c_write_read_begin(block, chip, target, written, read),
+        3 => transfer::ch32_i2c_write_begin(block, chip, target, call.option, written),
+        4 => transfer::ch32_i2c_read_begin(block, chip, target, call.option, read),
+        5 => init_slave::ch32_i2c_init_slave_begin(
+            block,
+            call.ten_bit,
+            call.address,
+            call.has_second,
+            call.second,
+            call.general_call,
+            call.clock_stretching,
+        ),
+        6 => response::ch32_i2c_listen_begin(block, chip),
+        7 => response::ch32_i2c_respond_to_write_begin(block, chip, read),
+        _ => response::ch32_i2c_respond_to_read_begin(block, chip, written),
+    }
+}
+
+pub fn step(
+    entry: u8,
+    block: &mut [u8],
+    list: &[u8],
+    written: &[u8],
+    read: &mut [u8],
+    answer: u16,
+) -> u64 {
+    match entry {
+        0 => init::ch32_i2c_init_step(block, answer),
+        1 => transfer::ch32_i2c_transaction_step(block, list, written, read, answer),
+        2 => transfer::ch32_i2c_write_read_step(block, written, read, answer),
+        3 => transfer::ch32_i2c_write_step(block, written, answer),
+        4 => transfer::ch32_i2c_read_step(block, read, answer),
+        5 => init_slave::ch32_i2c_init_slave_step(block, answer),
+        6 => response::ch32_i2c_listen_step(block, answer),
+        7 => response::ch32_i2c_respond_to_write_step(block, read, answer),
+        _ => response::ch32_i2c_respond_to_read_step(block, written, answer),
+    }
+}
