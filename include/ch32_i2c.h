@@ -21,6 +21,8 @@
  *   - What a block holds before begin does not matter. One block serves one call at a time; several calls need several blocks.
  *   - The end is the first end. A step after it answers CH32_I2C_INVALID_STATE (15) and changes nothing.
  *   - A step refuses with CH32_I2C_INVALID_STATE alone, and then every lent byte is as before.
+ *     It sees whether the block fits what is lent, not whether begin was lent the same: a frame or a responder may go on with another
+ *     length.
  *   - The bytes of a read are stored as they arrive. After an error those that had arrived are there, and the rest is as before.
  *   - A null pointer is accepted where the length is 0, and nowhere else.
  *
@@ -84,7 +86,7 @@ enum ch32_i2c_end {
     CH32_I2C_INPUT_TOO_SLOW = 12,      /* ch32v4: input clock below 4 MHz */
     CH32_I2C_TOO_MANY_OPERATIONS = 13, /* more than CH32_I2C_MAX_OPERATIONS */
     CH32_I2C_LENGTH_MISMATCH = 14,     /* the buffers are not as long as the list says */
-    CH32_I2C_INVALID_STATE = 15,       /* a step after the end, a block that is not this call's, other lengths than at begin */
+    CH32_I2C_INVALID_STATE = 15,       /* a block not of 32 bytes; a step after the end, or with a block that does not fit */
     CH32_I2C_INVALID_ARGUMENT = 16     /* chip, duty, option, flag or direction that does not exist; list not a multiple of 3 bytes */
 };
 

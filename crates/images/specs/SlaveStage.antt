@@ -97,7 +97,7 @@ stageGroup (stage.Errors part) = 8
 stageGroup (stage.Abort part) = 9
 stageGroup stage.Ended = 10
 
--- which of the group's: what STOP falls for, what is waited for
+-- which of the group's: what STOPF is cleared for
 abbrev pub stageWhat : Stage → ℕ
 stageWhat (stage.ClearStopf what part) = stopfForNumber what
 stageWhat (stage.Stale part) = 0

@@ -187,7 +187,7 @@ pub fn stage_group(stage: Stage) -> u8
     }
 }
 
-// Which of the group's: what STOP falls for, what is waited for.
+// Which of the group's: what STOPF is cleared for.
 pub fn stage_what(stage: Stage) -> u8
     ensures { λ r. ⌜ r ≡ stageWhat stage ⌝ }
 {
