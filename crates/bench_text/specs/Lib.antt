@@ -1,0 +1,5 @@
+pub mod Digits
+pub mod Lines
+pub mod Forms
+pub mod Puts
+pub mod Shown
