@@ -9,10 +9,14 @@ unfoldable pub lineLength : List ℕ → ℕ
 lineLength [] = 0
 lineLength (b ∷ l) = cond (eqb b 10) 1 (suc (lineLength l))
 
+-- what follows the last line feed
+abbrev pub lastLine : List ℕ → List (List ℕ)
+lastLine [] = []
+lastLine (b ∷ l) = (b ∷ l) ∷ []
+
 -- the lines, where one has begun with these bytes
 unfoldable pub linesFrom : List ℕ → List ℕ → List (List ℕ)
-linesFrom [] [] = []
-linesFrom (b ∷ begun) [] = (b ∷ begun) ∷ []
+linesFrom begun [] = lastLine begun
 linesFrom begun (b ∷ l) = cond (eqb b 10) ((begun ++ (b ∷ [])) ∷ linesFrom [] l) (linesFrom (begun ++ (b ∷ [])) l)
 
 abbrev pub linesOf : List ℕ → List (List ℕ)

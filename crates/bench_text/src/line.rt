@@ -103,7 +103,7 @@ pub fn is_pairs(line: &[u8], from: usize) -> bool
 }
 
 // Puts a byte at a place of a buffer, and nothing past its end.
-fn put_byte(out: &mut [u8], to: usize, count: usize, byte: u8)
+pub fn put_byte(out: &mut [u8], to: usize, count: usize, byte: u8)
     ensures { λ _. ⌜ now (out .exit) ≡ set (now (out .entry)) (to + count) byte ⌝ }
 {
     if to < out.len() {
@@ -189,6 +189,23 @@ pub fn put_words(line: &[u8], from: usize, out: &mut [u16], to: usize) -> usize
             count,
             (digits::word(line[at], line[at + 1], line[at + 2], line[at + 3]) % 65536) as u16,
         );
+        count += 1;
+        at += 5;
+    }
+    count
+}
+
+// How many words there are from a place on.
+pub fn count_words(line: &[u8], from: usize) -> usize
+    ensures { λ r. ⌜ r ≡ length (wordsOf (drop from (now (line .entry)))) ⌝ }
+    ensures { λ r. ⌜ r ≤ length (now (line .entry)) ⌝ }
+{
+    let mut at = from;
+    let mut count: usize = 0;
+    while at < line.len() {
+        if line.len() - at < 5 {
+            return count;
+        }
         count += 1;
         at += 5;
     }
