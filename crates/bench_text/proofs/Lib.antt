@@ -1,0 +1,4 @@
+pub mod PutLaws
+pub mod LineLaws
+pub mod TakeLaws
+pub mod InputLaws
