@@ -38,6 +38,8 @@ use Rattle.driver.specs.declared.call.Standing.{Standing}
 use Rattle.driver.specs.declared.call.Standing.the-variants.{Nowhere, In}
 use Rattle.driver.specs.Look.{lookedWith, look}
 use Rattle.driver.specs.Standing.{stands}
+use Rattle.driver.specs.Taken.{taken}
+use Rattle.driver.proofs.TakenLaws.{taken-ends, taken-keeps}
 
 -- ---- what was found
 
@@ -155,25 +157,31 @@ module _ (s : State) (l : Lent) (a : ℕ) where
   unfolding stepRead
   read-nowhere bytes q = rw (nowhere-fits q)
 
-  module _ (r : Run) (q : In r ≡ place) (g : Setting) (eg : g ≡ settingOf (s .call)) (n : Need) (en : n ≡ owedAt g (s .stage) (s .progress)) where
+  module _ (r : Run) (q : In r ≡ place) (g : Setting) (eg : g ≡ settingOf (s .call)) (n : Need) (en : n ≡ taken (owedAt g (s .stage) (s .progress))) where
     in-fits : (fitsLent s (l .list) (length (l .written)) (l .room) ≡ true) × (r ≡ runOf (shapeBy (s .call) (l .list) (length (l .written)) (l .room)) (s .progress .run))
     in-fits = subst (Stands s (l .list) (length (l .written)) (l .room)) (sym q) (stood s (l .list) (length (l .written)) (l .room))
 
-    need-is : n ≡ needOf s
-    need-is = en ∙ ap (λ (g : Setting). owedAt g (s .stage) (s .progress)) eg
+    need-is : n ≡ taken (needOf s)
+    need-is = en ∙ ap (λ (g : Setting). taken (owedAt g (s .stage) (s .progress))) eg
+
+    end-is : isEnd n ≡ isEnd (needOf s)
+    end-is = ap isEnd need-is ∙ taken-ends (needOf s)
+
+    keep-is : (bytes : List ℕ) → kept n a bytes ≡ kept (needOf s) a bytes
+    keep-is bytes = ap (λ (n : Need). kept n a bytes) need-is ∙ taken-keeps (needOf s) a bytes
 
     pub step-ended : (out : Stepped) → isEnd n ≡ true → out ≡ refused s → out ≡ step s l a
     unfolding step
-    step-ended out e eo = rw (in-fits .0, ← need-is, e, eo)
+    step-ended out e eo = rw (in-fits .0, ← end-is, e, eo)
 
     pub read-ended : (bytes : List ℕ) → isEnd n ≡ true → bytes ≡ stepRead s l a bytes
     unfolding stepRead
-    read-ended bytes e = rw (in-fits .0, ← need-is, e)
+    read-ended bytes e = rw (in-fits .0, ← end-is, e)
 
     pub step-moved : (m : Move) (out : Stepped) → isEnd n ≡ false → m ≡ advanceAt g r (s .stage) (s .progress) a → out ≡ handed (s .call) (l .written) m → out ≡ step s l a
     unfolding step
-    step-moved m out e em eo = rw (in-fits .0, ← need-is, e, eo, em, in-fits .1, eg)
+    step-moved m out e em eo = rw (in-fits .0, ← end-is, e, eo, em, in-fits .1, eg)
 
     pub read-moved : (bytes after : List ℕ) → isEnd n ≡ false → after ≡ kept n a bytes → after ≡ stepRead s l a bytes
     unfolding stepRead
-    read-moved bytes after e ea = rw (in-fits .0, ← need-is, e, ea)
+    read-moved bytes after e ea = rw (in-fits .0, ← end-is, e, ea, keep-is bytes)

@@ -144,7 +144,7 @@ pub fn step(state: State, list: &[u8], written: &[u8], read: &mut [u8], answer: 
     match stands(state, list, written.len(), read.len()) {
         Standing::Nowhere => refused(state),
         Standing::In(run) => {
-            let need = owed::owed_at(g, stage, progress);
+            let need = owed::taken_at(g, stage, progress);
             if access::need::is_end(need) {
                 return refused(state);
             }

@@ -1,5 +1,6 @@
 // The access that is owed.
 ghost use mathlib.Core.Path.{_≡_};
+ghost use Rattle.driver.specs.Taken.{taken};
 ghost use Rattle.master.specs.Machine.{finishTransfer, onlyFrequency, startWord, owedFall, owedLaunch, owedWait, owedAddress, owedRecv, owedRead, owedStop, owedAbort, owedAt};
 use access::Need;
 use master::Progress;
@@ -172,6 +173,42 @@ pub fn owed_at(g: Setting, stage: Stage, d: Progress) -> Need
         Stage::ReadIter(part) => owed_read(frame.send_nack, part, d),
         Stage::GenerateStop(_, half) => owed_stop(half, d),
         Stage::Abort(part) => owed_abort(part, d),
+        Stage::Ended => Need::End(ending),
+    }
+}
+
+// What matters of a need once it has its answer: where a byte is kept, and the end.
+fn taken(need: Need) -> Need
+    ensures { λ r. ⌜ r ≡ taken need ⌝ }
+{
+    match need {
+        Need::Read(_) => Need::Clock,
+        Need::Write(_, _) => Need::Clock,
+        Need::Clock => Need::Clock,
+        Need::Send(_) => Need::Clock,
+        Need::Keep(place) => Need::Keep(place),
+        Need::Drop => Need::Clock,
+        Need::End(ending) => Need::End(ending),
+    }
+}
+
+// The same of what was owed, without the words that it wrote.
+pub fn taken_at(g: Setting, stage: Stage, d: Progress) -> Need
+    ensures { λ r. ⌜ r ≡ taken (owedAt g stage d) ⌝ }
+{
+    let frame = g.frame;
+    let ending = d.ending;
+    match stage {
+        Stage::Begin => Need::Clock,
+        Stage::WaitStop(_, _) => Need::Clock,
+        Stage::LaunchStart(_) => Need::Clock,
+        Stage::Wait(_, _) => Need::Clock,
+        Stage::Address(_) => Need::Clock,
+        Stage::SendByte => Need::Clock,
+        Stage::RecvByte(part) => taken(owed_recv(part, d)),
+        Stage::ReadIter(part) => taken(owed_read(frame.send_nack, part, d)),
+        Stage::GenerateStop(_, _) => Need::Clock,
+        Stage::Abort(_) => Need::Clock,
         Stage::Ended => Need::End(ending),
     }
 }
