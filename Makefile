@@ -2,9 +2,10 @@
 # is rt's verdict.
 .PHONY: test
 
-test: ctest demo-check
+test: ctest demo-check bench-check
 	rt fmt --check
 	rt ci
 
 include c.mk
+include bench.mk
 include oracle/oracle.mk

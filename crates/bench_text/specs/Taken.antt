@@ -69,3 +69,8 @@ abbrev pub FilledWith : Input → List ℕ → List ℕ → List ℕ → List �
 FilledWith (badLine k) list list′ written written′ words words′ = Unit {0}
 FilledWith (call chip address s) list list′ written written′ words words′ =
     (list′ ≡ sets list 0 (s .list)) × (written′ ≡ sets written 0 (s .written)) × (words′ ≡ sets words 0 (s .answers))
+
+-- the numbers of a call are within the buffers' bounds
+abbrev pub Within : Parsed → Type 0
+Within (parsed.Bad k) = Unit {0}
+Within (parsed.Call chip address p) = (p .listed ≤ 65536) × (p .written ≤ 65536) × (p .room ≤ 65535) × (p .answers ≤ 4096)

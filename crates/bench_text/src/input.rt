@@ -4,7 +4,7 @@ ghost use Prim.Native.Nat.{_≤_};
 ghost use lib.ListN.{length, drop};
 ghost use lib.Seq.{sets};
 ghost use Rattle.bench_text.specs.Input.{operationBytes, roomWith, writesIn, readsIn, answersIn, lineOf, saidNothing, inputFrom, inputOf};
-ghost use Rattle.bench_text.specs.Taken.{takenWith, listWith, writtenWith, answersWith, Grows, Room, parsedOf, FilledWith};
+ghost use Rattle.bench_text.specs.Taken.{takenWith, listWith, writtenWith, answersWith, Grows, Room, parsedOf, FilledWith, Within};
 ghost use Rattle.bench_text.specs.Lines.{linesOf};
 use crate::line;
 use crate::line::Header;
@@ -171,6 +171,7 @@ fn take_all(
     requires { ⌜ length (now text) ≤ 65536 ⌝ }
     ensures { λ r. ⌜ r ≡ parsedOf (inputFrom chip address 1 saidNothing (linesOf (drop from (now (text .entry))))) ⌝ }
     ensures { λ _. ⌜ FilledWith (inputFrom chip address 1 saidNothing (linesOf (drop from (now (text .entry))))) (now (list .entry)) (now (list .exit)) (now (written .entry)) (now (written .exit)) (now (answers .entry)) (now (answers .exit)) ⌝ }
+    ensures { λ r. ⌜ Within r ⌝ }
 {
     let mut at = from;
     let mut number: u32 = 1;
@@ -201,6 +202,7 @@ fn take_all(
 pub fn parse(text: &[u8], list: &mut [u8], written: &mut [u8], answers: &mut [u16]) -> Parsed
     ensures { λ r. ⌜ r ≡ parsedOf (inputOf (now (text .entry))) ⌝ }
     ensures { λ _. ⌜ FilledWith (inputOf (now (text .entry))) (now (list .entry)) (now (list .exit)) (now (written .entry)) (now (written .exit)) (now (answers .entry)) (now (answers .exit)) ⌝ }
+    ensures { λ r. ⌜ Within r ⌝ }
 {
     if 65536 < text.len() {
         return Parsed::Bad(0);

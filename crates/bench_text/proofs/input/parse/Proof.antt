@@ -11,7 +11,7 @@ pub parse-spec : {M : Type 1} → statement M
 parse-spec =
     tie.close
     (tie.spec
-    (λ c. let e = too-long _ (c .if1 .taken) in (ap parsedOf (sym e), rw e tt))
+    (λ c. let e = too-long _ (c .if1 .taken) in (ap parsedOf (sym e), (rw e tt, tt)))
     (λ c κs. search needs)
     (λ c. search needs)
     (λ c. search needs)
@@ -20,8 +20,8 @@ parse-spec =
     (λ c. search needs)
     (λ c. search needs)
     (λ c κs. search needs)
-    (λ c. let e = header-bad _ _ (c .before .before .before .before .before .if1 .left) (c .before .before .before .before .line-end .ensures .0) (sym (c .before .before .header-in .ensures) ∙ c .enum-told .given .1) in (ap parsedOf (sym e), rw e tt))
+    (λ c. let e = header-bad _ _ (c .before .before .before .before .before .if1 .left) (c .before .before .before .before .line-end .ensures .0) (sym (c .before .before .header-in .ensures) ∙ c .enum-told .given .1) in (ap parsedOf (sym e), (rw e tt, tt)))
     (λ c. search needs)
     (λ c. search needs)
     (λ c. search needs)
-    (λ c. let e = header-good _ _ (c .before .before .before .before .before .before .before .before .before .before .before .before .before .before .before .before .if1 .left) (c .before .before .before .before .before .before .before .before .before .before .before .before .before .before .before .line-end .ensures .0) (sym (c .before .before .before .before .before .before .before .before .before .before .before .before .before .header-in .ensures) ∙ c .before .before .before .before .before .before .before .before .before .before .before .chip .given .1) in (rw e (c .before .before .before .before .before .before .take-all .ensures .0), rw e (c .before .before .before .before .before .before .take-all .ensures .1))))
+    (λ c. let e = header-good _ _ (c .before .before .before .before .before .before .before .before .before .before .before .before .before .before .before .before .if1 .left) (c .before .before .before .before .before .before .before .before .before .before .before .before .before .before .before .line-end .ensures .0) (sym (c .before .before .before .before .before .before .before .before .before .before .before .before .before .header-in .ensures) ∙ c .before .before .before .before .before .before .before .before .before .before .before .chip .given .1) in (rw e (c .before .before .before .before .before .before .take-all .ensures .0), (rw e (c .before .before .before .before .before .before .take-all .ensures .1 .0), c .before .before .before .before .before .before .take-all .ensures .1 .1))))

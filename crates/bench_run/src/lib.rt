@@ -1,0 +1,3 @@
+// The bench program's work, from the input's bytes to the bytes that are printed.
+pub mod answer;
+pub mod play;

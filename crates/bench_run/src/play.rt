@@ -1,0 +1,201 @@
+// A call played with a list of answers, and its record printed.
+ghost use mathlib.Core.Path.{_≡_};
+ghost use Prim.Native.Nat.{_+_, _≤_};
+ghost use lib.ListN.{length, getD, take};
+ghost use Rattle.bench_text.specs.Puts.{Puts};
+ghost use Rattle.master.specs.Calls.{lentWith};
+ghost use Rattle.master.specs.Steps.{begin};
+ghost use Rattle.bench_run.specs.Play.{asked, isData, arriving, isEnd, accessText, endNumber, endingText, finishText, playFrom, mostTurns, played};
+use access::Ending;
+use access::Next;
+use bench_text::shown;
+use driver::call;
+use master::Begun;
+use master::Call;
+use master::Stepped;
+use registers::Register;
+
+// More accesses than a call makes on 4,096 answers.
+const TURNS: u32 = 16384;
+
+// How many answers an access takes.
+fn asked(next: Next) -> usize
+    ensures { λ r. ⌜ r ≡ asked next ⌝ }
+    ensures { λ r. ⌜ r ≤ 1 ⌝ }
+{
+    match next {
+        Next::Read(_) => 1,
+        Next::Write(_, _) => 0,
+        Next::Clock => 1,
+        Next::End(_) => 0,
+    }
+}
+
+fn is_data(register: Register) -> usize
+    ensures { λ r. ⌜ r ≡ isData register ⌝ }
+    ensures { λ r. ⌜ r ≤ 1 ⌝ }
+{
+    match register {
+        Register::Ctlr1 => 0,
+        Register::Ctlr2 => 0,
+        Register::Oaddr1 => 0,
+        Register::Oaddr2 => 0,
+        Register::Datar => 1,
+        Register::Star1 => 0,
+        Register::Star2 => 0,
+        Register::Ckcfgr => 0,
+        Register::Rtr => 0,
+    }
+}
+
+// How many bytes arrive with an access.
+fn arriving(next: Next) -> usize
+    ensures { λ r. ⌜ r ≡ arriving next ⌝ }
+    ensures { λ r. ⌜ r ≤ 1 ⌝ }
+{
+    match next {
+        Next::Read(register) => is_data(register),
+        Next::Write(_, _) => 0,
+        Next::Clock => 0,
+        Next::End(_) => 0,
+    }
+}
+
+fn is_end(next: Next) -> bool
+    ensures { λ r. ⌜ r ≡ isEnd next ⌝ }
+{
+    match next {
+        Next::Read(_) => false,
+        Next::Write(_, _) => false,
+        Next::Clock => false,
+        Next::End(_) => true,
+    }
+}
+
+// The answer at a place, and 0 past the end.
+fn answer_at(answers: &[u16], at: usize) -> u16
+    ensures { λ r. ⌜ r ≡ getD (now (answers .entry)) at 0 ⌝ }
+{
+    if at < answers.len() { answers[at] } else { 0 }
+}
+
+fn put_access(out: &mut [u8], at: usize, next: Next, answer: u16) -> usize
+    requires { ⌜ at + 14 ≤ length (now out) ⌝ }
+    ensures { λ r. ⌜ Puts (now (out .entry)) at (accessText next answer) r (now (out .exit)) ⌝ }
+    ensures { λ r. ⌜ r ≤ at + 14 ⌝ }
+{
+    match next {
+        Next::Read(register) => shown::put_read(out, at, register, answer),
+        Next::Write(register, value) => shown::put_write(out, at, register, value),
+        Next::Clock => shown::put_clock(out, at, answer),
+        Next::End(_) => at,
+    }
+}
+
+fn end_number(ending: Ending) -> u8
+    ensures { λ r. ⌜ r ≡ endNumber ending ⌝ }
+{
+    match ending {
+        Ending::Done(_) => 0,
+        Ending::Failed(failure) => {
+            let error = failure.error;
+            access::ending::error_number(error)
+        }
+    }
+}
+
+fn put_ending(out: &mut [u8], at: usize, next: Next, used: u32) -> usize
+    requires { ⌜ at + 16 ≤ length (now out) ⌝ }
+    ensures { λ r. ⌜ Puts (now (out .entry)) at (endingText next used) r (now (out .exit)) ⌝ }
+    ensures { λ r. ⌜ r ≤ at + 16 ⌝ }
+{
+    match next {
+        Next::Read(_) => shown::put_open(out, at, used),
+        Next::Write(_, _) => shown::put_open(out, at, used),
+        Next::Clock => shown::put_open(out, at, used),
+        Next::End(ending) => shown::put_end(out, at, end_number(ending), used),
+    }
+}
+
+// The bytes that arrived, and the end.
+fn put_last(out: &mut [u8], at: usize, next: Next, bytes: &[u8], used: u32) -> usize
+    requires { ⌜ at + 19 + (length (now bytes) + length (now bytes)) ≤ length (now out) ⌝ }
+    ensures { λ r. ⌜ Puts (now (out .entry)) at (finishText next (now (bytes .entry)) used) r (now (out .exit)) ⌝ }
+    ensures { λ r. ⌜ r ≤ length (now (out .entry)) ⌝ }
+{
+    let behind = shown::put_arrived(out, at, bytes);
+    put_ending(out, behind, next, used)
+}
+
+fn finish(out: &mut [u8], at: usize, next: Next, read: &[u8], arrived: usize, used: usize) -> usize
+    requires { ⌜ used ≤ 4096 ⌝ }
+    requires { ⌜ at + 19 + (arrived + arrived) ≤ length (now out) ⌝ }
+    ensures { λ r. ⌜ Puts (now (out .entry)) at (finishText next (take arrived (now (read .entry))) used) r (now (out .exit)) ⌝ }
+    ensures { λ r. ⌜ r ≤ length (now (out .entry)) ⌝ }
+{
+    if arrived < read.len() {
+        return put_last(out, at, next, &read[..arrived], used as u32);
+    }
+    put_last(out, at, next, read, used as u32)
+}
+
+fn go(
+    first: Stepped,
+    list: &[u8],
+    written: &[u8],
+    read: &mut [u8],
+    answers: &[u16],
+    out: &mut [u8],
+) -> usize
+    requires { ⌜ length (now answers) ≤ 4096 ⌝ }
+    requires { ⌜ 262163 ≤ length (now out) ⌝ }
+    ensures { λ r. ⌜ Puts (now (out .entry)) 0 (playFrom mostTurns (now (list .entry)) (now (written .entry)) (now (answers .entry)) first (now (read .entry)) 0 0) r (now (out .exit)) ⌝ }
+    ensures { λ r. ⌜ r ≤ length (now (out .entry)) ⌝ }
+{
+    let mut stepped = first;
+    let mut used: usize = 0;
+    let mut arrived: usize = 0;
+    let mut at: usize = 0;
+    let mut turns = TURNS;
+    while 0 < turns {
+        let next = stepped.next;
+        let state = stepped.state;
+        if is_end(next) {
+            return finish(out, at, next, read, arrived, used);
+        }
+        let taken = asked(next);
+        if answers.len() < used + taken {
+            return finish(out, at, next, read, arrived, used);
+        }
+        let answer = answer_at(answers, used);
+        at = put_access(out, at, next, answer);
+        used += taken;
+        arrived += arriving(next);
+        stepped = call::step(state, list, written, read, answer);
+        turns -= 1;
+    }
+    let last = stepped.next;
+    finish(out, at, last, read, arrived, used)
+}
+
+pub fn play(
+    call: Call,
+    list: &[u8],
+    written: &[u8],
+    read: &mut [u8],
+    answers: &[u16],
+    out: &mut [u8],
+) -> usize
+    requires { ⌜ length (now answers) ≤ 4096 ⌝ }
+    requires { ⌜ 262163 ≤ length (now out) ⌝ }
+    ensures { λ r. ⌜ Puts (now (out .entry)) 0 (played (begin call (lentWith (now (list .entry)) (now (written .entry)) (length (now (read .entry))))) (now (list .entry)) (now (written .entry)) (now (answers .entry)) (now (read .entry))) r (now (out .exit)) ⌝ }
+    ensures { λ r. ⌜ r ≤ length (now (out .entry)) ⌝ }
+{
+    match call::begin(call, list, written, read.len()) {
+        Begun::Refused(error) => {
+            let end = Next::End(access::ending::failed(error));
+            finish(out, 0, end, read, 0, 0)
+        }
+        Begun::Accepted(stepped) => go(stepped, list, written, read, answers, out),
+    }
+}
