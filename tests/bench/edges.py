@@ -10,12 +10,11 @@ def refused(number):
     return b"d,\nend,%d,0\n" % number
 
 
-# An answer 0001 keeps a call waiting for STOP to fall: its bit 9 is clear, so it goes on to the next access.
 CASES = [
     ("empty", b"", b"bad,1\n"),
     ("a line feed alone", b"\n", b"bad,1\n"),
     ("one byte too long", HEADER + b"W,\n" * 21843 + b"\n", b"bad,0\n"),
-    ("as long as allowed, the last line bad", HEADER + b"W,\n" * 21843, refused(13)),
+    ("as long as allowed", HEADER + b"W,\n" * 21843, refused(13)),
     ("header without its line feed", b"T,0,21", b"bad,1\n"),
     ("last line without its line feed", HEADER + b"W,", b"bad,2\n"),
     ("header alone", HEADER, b"d,\nend,0,0\n"),
