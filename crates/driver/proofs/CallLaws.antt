@@ -1,4 +1,4 @@
--- Begin and step, by what was found of what is lent.
+-- Where begin and a step lead, by what was found of what is lent.
 -- Assumes nothing.
 use mathlib.Core.Path.{_≡_, refl, sym, ap, _∙_, subst}
 use mathlib.Core.Bool.{Bool, true, false, cond, not, _&&_}
@@ -8,10 +8,13 @@ use Prim.Native.Nat.{ℕ, _%_}
 use lib.Dec.{ltb}
 use lib.ListN.{length, set, length-set}
 use Rattle.access.specs.declared.ending.Error.{Error}
-use Rattle.access.specs.declared.ending.Error.the-variants.{InvalidAddress, TooManyOperations, InvalidArgument, LengthMismatch}
+use Rattle.access.specs.declared.ending.Error.the-variants.{InvalidAddress, TooManyOperations, InvalidArgument, LengthMismatch, InvalidState}
 use Rattle.access.specs.declared.need.Need.{Need}
 use Rattle.access.specs.declared.need.Need.the-variants as need
 use Rattle.access.specs.declared.next.Next.{Next}
+use Rattle.access.specs.declared.next.Next.the-variants as next
+use Rattle.access.specs.declared.ending.Ending.{Ending}
+use Rattle.access.specs.Endings.{failed}
 use Rattle.access.specs.Machine.{filled, kept, isEnd}
 use Rattle.operations.specs.declared.search.Run.{Run}
 use Rattle.operations.specs.declared.search.FoundRun.{FoundRun}
@@ -27,19 +30,22 @@ use Rattle.master.specs.declared.state.Move.{Move}
 use Rattle.master.specs.declared.state.State.{State}
 use Rattle.master.specs.declared.state.Stepped.{Stepped}
 use Rattle.master.specs.declared.state.Begun.the-variants as begun
-use Rattle.master.specs.Machine.{startWith, foundRun, runOf, owedAt, advanceAt}
+use Rattle.master.specs.Machine.{start, startWith, foundRun, runOf, owedAt, advanceAt}
 use Rattle.master.specs.Fits.{fitsFound, fits}
 use Rattle.master.specs.Calls.{Lent, refuse, orNext, mismatch, misshapen, causeAt, refusalBy, refusal, spansBy, shapeBy, settingOf}
 use Rattle.master.specs.Steps.{stateAt, handed, begunWith, begin, isNone, fitsLent, needOf, refused, moved, step, stepRead}
 use Rattle.master.proofs.CallAgrees.{passed-cause, passed-list}
-use Rattle.driver.specs.declared.lent.Looked.{Looked}
-use Rattle.driver.specs.declared.lent.Looked.the-variants as looked
+use Rattle.standing.specs.declared.lent.Looked.{Looked}
+use Rattle.standing.specs.declared.lent.Looked.the-variants as looked
 use Rattle.driver.specs.declared.call.Standing.{Standing}
 use Rattle.driver.specs.declared.call.Standing.the-variants.{Nowhere, In}
-use Rattle.driver.specs.Look.{lookedWith, look}
+use Rattle.standing.specs.Look.{lookedWith, look}
 use Rattle.driver.specs.Standing.{stands}
-use Rattle.driver.specs.Taken.{taken}
-use Rattle.driver.proofs.TakenLaws.{taken-ends, taken-keeps}
+use Rattle.driver.specs.declared.call.Went.{Went}
+use Rattle.driver.specs.declared.call.Went.the-variants as went
+use Rattle.driver.specs.Went.{wentWith, firstMove, takenIn, takenRead, nextMove, nextRead, begunBy, steppedBy}
+use Rattle.standing.specs.Taken.{taken}
+use Rattle.standing.proofs.TakenLaws.{taken-ends, taken-keeps, end-keeps}
 
 -- ---- what was found
 
@@ -72,30 +78,24 @@ formed kind.WriteRead address list written room q = refl
 formed (kind.Write o) address list written room q = refl
 formed (kind.Read o) address list written room q = refl
 
--- ---- what is handed out
+-- ---- where a call begins
 
-pub hands-out : (c : Call) (bytes : List ℕ) (m : Move) (g : Setting) (n : Need) (x : Next) → g ≡ settingOf c → n ≡ owedAt g (m .stage) (m .progress) → x ≡ filled bytes n
-    → _≡_ {A = Stepped} (record { state = stateAt c m; next = x }) (handed c bytes m)
-hands-out c bytes m g n x eg en ex = rw (ex, en, eg)
+module _ (c : Call) (list : List ℕ) (written room : ℕ) where
+  pub first-misshapen : misshapen (c .kind) list ≡ true → went.Refused InvalidArgument ≡ firstMove c list written room
+  unfolding firstMove
+  first-misshapen e = rw e
 
--- ---- begin
+  module _ (form : misshapen (c .kind) list ≡ false) where
+    pub first-refused : (e : Error) → looked.Refused e ≡ look (c .kind) (c .address) list written room 0 → went.Refused e ≡ firstMove c list written room
+    unfolding firstMove
+    first-refused e q = rw (form, refused-cause (c .kind) (c .address) list written room 0 e q)
 
-module _ (c : Call) (l : Lent) where
-  pub begin-misshapen : misshapen (c .kind) (l .list) ≡ true → begun.Refused InvalidArgument ≡ begin c l
-  unfolding begin refusal
-  begin-misshapen e = rw e
-
-  module _ (form : misshapen (c .kind) (l .list) ≡ false) where
-    pub begin-refused : (e : Error) → looked.Refused e ≡ look (c .kind) (c .address) (l .list) (length (l .written)) (l .room) 0 → begun.Refused e ≡ begin c l
-    unfolding begin refusal
-    begin-refused e q = rw (form, refused-cause (c .kind) (c .address) (l .list) (length (l .written)) (l .room) 0 e q)
-
-    pub begin-found : (f : FoundRun) (g : Setting) (m : Move) (s : Stepped) → looked.Found f ≡ look (c .kind) (c .address) (l .list) (length (l .written)) (l .room) 0
-        → g ≡ settingOf c → m ≡ startWith g f → s ≡ handed c (l .written) m → begun.Accepted s ≡ begin c l
-    unfolding begin refusal
-    begin-found f g m s q eg em es =
-        let z = found-cause (c .kind) (c .address) (l .list) (length (l .written)) (l .room) 0 f q in
-        rw (form, z .0, es, em, eg, z .1)
+    pub first-found : (f : FoundRun) (g : Setting) (m : Move) → looked.Found f ≡ look (c .kind) (c .address) list written room 0 → g ≡ settingOf c → m ≡ startWith g f
+        → went.To m ≡ firstMove c list written room
+    unfolding firstMove
+    first-found f g m q eg em =
+        let z = found-cause (c .kind) (c .address) list written room 0 f q in
+        rw (form, z .0, em, eg, z .1)
 
 -- ---- where a state stands
 
@@ -127,9 +127,34 @@ module _ (s : State) (list : List ℕ) (written room : ℕ) where
     unfolding stands
     stands-nowhere e = rw (fits-is, e)
 
--- ---- step
+-- ---- what is made of an answer
 
-module _ (s : State) (list : List ℕ) (written room : ℕ) where
+module _ (s : State) (a : ℕ) (g : Setting) (eg : g ≡ settingOf (s .call)) (n : Need) (en : n ≡ taken (owedAt g (s .stage) (s .progress))) where
+  need-is : n ≡ taken (needOf s)
+  need-is = en ∙ ap (λ (g : Setting). taken (owedAt g (s .stage) (s .progress))) eg
+
+  end-is : isEnd n ≡ isEnd (needOf s)
+  end-is = ap isEnd need-is ∙ taken-ends (needOf s)
+
+  pub read-kept : (old after : List ℕ) → after ≡ kept n a old → after ≡ takenRead s a old
+  unfolding takenRead
+  read-kept old after e = e ∙ ap (λ (n : Need). kept n a old) need-is ∙ taken-keeps (needOf s) a old
+
+  pub read-ended : (old : List ℕ) → isEnd n ≡ true → old ≡ takenRead s a old
+  unfolding takenRead
+  read-ended old e = end-keeps (needOf s) a old (sym end-is ∙ e)
+
+  pub taken-ended : (r : Run) → isEnd n ≡ true → went.Refused InvalidState ≡ takenIn s r a
+  unfolding takenIn
+  taken-ended r e = rw (← end-is, e)
+
+  pub taken-moved : (r : Run) (m : Move) → isEnd n ≡ false → m ≡ advanceAt g r (s .stage) (s .progress) a → went.To m ≡ takenIn s r a
+  unfolding takenIn
+  taken-moved r m e em = rw (← end-is, e, em, eg)
+
+-- ---- where an answer leads
+
+module _ (s : State) (list : List ℕ) (written room : ℕ) (a : ℕ) where
   abbrev Stands : Standing → Type 0
   Stands Nowhere = fitsLent s list written room ≡ false
   Stands (In r) = (fitsLent s list written room ≡ true) × (r ≡ runOf (shapeBy (s .call) list written room) (s .progress .run))
@@ -142,46 +167,78 @@ module _ (s : State) (list : List ℕ) (written room : ℕ) where
       go true q = (q, refl)
       go false q = q
 
-module _ (s : State) (l : Lent) (a : ℕ) where
-  abbrev place : Standing
-  place = stands s (l .list) (length (l .written)) (l .room)
+  nowhere-fits : Nowhere ≡ stands s list written room → fitsLent s list written room ≡ false
+  nowhere-fits q = subst Stands (sym q) stood
 
-  nowhere-fits : Nowhere ≡ place → fitsLent s (l .list) (length (l .written)) (l .room) ≡ false
-  nowhere-fits q = subst (Stands s (l .list) (length (l .written)) (l .room)) (sym q) (stood s (l .list) (length (l .written)) (l .room))
+  pub next-nowhere : Nowhere ≡ stands s list written room → went.Refused InvalidState ≡ nextMove s list written room a
+  unfolding nextMove
+  next-nowhere q = rw (nowhere-fits q)
 
-  pub step-nowhere : (out : Stepped) → Nowhere ≡ place → out ≡ refused s → out ≡ step s l a
-  unfolding step
-  step-nowhere out q e = rw (nowhere-fits q, e)
-
-  pub read-nowhere : (bytes : List ℕ) → Nowhere ≡ place → bytes ≡ stepRead s l a bytes
-  unfolding stepRead
+  pub read-nowhere : (bytes : List ℕ) → Nowhere ≡ stands s list written room → bytes ≡ nextRead s list written room a bytes
+  unfolding nextRead
   read-nowhere bytes q = rw (nowhere-fits q)
 
-  module _ (r : Run) (q : In r ≡ place) (g : Setting) (eg : g ≡ settingOf (s .call)) (n : Need) (en : n ≡ taken (owedAt g (s .stage) (s .progress))) where
-    in-fits : (fitsLent s (l .list) (length (l .written)) (l .room) ≡ true) × (r ≡ runOf (shapeBy (s .call) (l .list) (length (l .written)) (l .room)) (s .progress .run))
-    in-fits = subst (Stands s (l .list) (length (l .written)) (l .room)) (sym q) (stood s (l .list) (length (l .written)) (l .room))
+  module _ (r : Run) (q : In r ≡ stands s list written room) where
+    in-fits : (fitsLent s list written room ≡ true) × (r ≡ runOf (shapeBy (s .call) list written room) (s .progress .run))
+    in-fits = subst Stands (sym q) stood
 
-    need-is : n ≡ taken (needOf s)
-    need-is = en ∙ ap (λ (g : Setting). taken (owedAt g (s .stage) (s .progress))) eg
+    pub next-taken : (w : Went) → w ≡ takenIn s r a → w ≡ nextMove s list written room a
+    unfolding nextMove takenIn
+    next-taken w e = e ∙ go (isEnd (needOf s))
+      where
+        go : (b : Bool) → cond b (went.Refused InvalidState) (went.To (advanceAt (settingOf (s .call)) r (s .stage) (s .progress) a))
+            ≡ cond (fitsLent s list written room && not b) (went.To (advanceAt (settingOf (s .call)) (runOf (shapeBy (s .call) list written room) (s .progress .run)) (s .stage) (s .progress) a)) (went.Refused InvalidState)
+        go true = rw (in-fits .0)
+        go false = rw (in-fits .0, in-fits .1)
 
-    end-is : isEnd n ≡ isEnd (needOf s)
-    end-is = ap isEnd need-is ∙ taken-ends (needOf s)
+    pub read-taken : (bytes after : List ℕ) → after ≡ takenRead s a bytes → after ≡ nextRead s list written room a bytes
+    unfolding nextRead takenRead
+    read-taken bytes after e = e ∙ go (isEnd (needOf s)) refl
+      where
+        go : (b : Bool) → isEnd (needOf s) ≡ b → kept (needOf s) a bytes ≡ cond (fitsLent s list written room && not b) (kept (needOf s) a bytes) bytes
+        go true z = sym (end-keeps (needOf s) a bytes z) ∙ sym (rw (in-fits .0))
+        go false z = rw (in-fits .0)
 
-    keep-is : (bytes : List ℕ) → kept n a bytes ≡ kept (needOf s) a bytes
-    keep-is bytes = ap (λ (n : Need). kept n a bytes) need-is ∙ taken-keeps (needOf s) a bytes
+-- ---- what is handed out
 
-    pub step-ended : (out : Stepped) → isEnd n ≡ true → out ≡ refused s → out ≡ step s l a
-    unfolding step
-    step-ended out e eo = rw (in-fits .0, ← end-is, e, eo)
+pub hands-out : (c : Call) (bytes : List ℕ) (m : Move) (g : Setting) (n : Need) (x : Next) → g ≡ settingOf c → n ≡ owedAt g (m .stage) (m .progress) → x ≡ filled bytes n
+    → _≡_ {A = Stepped} (record { state = stateAt c m; next = x }) (handed c bytes m)
+hands-out c bytes m g n x eg en ex = rw (ex, en, eg)
 
-    pub read-ended : (bytes : List ℕ) → isEnd n ≡ true → bytes ≡ stepRead s l a bytes
-    unfolding stepRead
-    read-ended bytes e = rw (in-fits .0, ← end-is, e)
+-- begin is its first move, with what that hands out
+pub begin-went : (c : Call) (l : Lent) → begin c l ≡ begunBy c (l .written) (firstMove c (l .list) (length (l .written)) (l .room))
+unfolding begin refusal firstMove
+begin-went c l = go (refusalBy (c .kind) (c .address) (l .list) (length (l .written)) (l .room))
+  where
+    go : (o : Option Error) → begunWith o c l ≡ begunBy c (l .written) (wentWith o (start (shapeBy c (l .list) (length (l .written)) (l .room))))
+    go (some e) = refl
+    go none = refl
 
-    pub step-moved : (m : Move) (out : Stepped) → isEnd n ≡ false → m ≡ advanceAt g r (s .stage) (s .progress) a → out ≡ handed (s .call) (l .written) m → out ≡ step s l a
-    unfolding step
-    step-moved m out e em eo = rw (in-fits .0, ← end-is, e, eo, em, in-fits .1, eg)
+-- and a step its next move
+pub step-went : (s : State) (l : Lent) (a : ℕ) → step s l a ≡ steppedBy s (l .written) (nextMove s (l .list) (length (l .written)) (l .room) a)
+unfolding step nextMove
+step-went s l a = go (fitsLent s (l .list) (length (l .written)) (l .room) && not (isEnd (needOf s)))
+  where
+    go : (b : Bool) → cond b (moved s l a) (refused s) ≡ steppedBy s (l .written) (cond b (went.To (advanceAt (settingOf (s .call)) (runOf (shapeBy (s .call) (l .list) (length (l .written)) (l .room)) (s .progress .run)) (s .stage) (s .progress) a)) (went.Refused InvalidState))
+    go true = refl
+    go false = refl
 
-    pub read-moved : (bytes after : List ℕ) → isEnd n ≡ false → after ≡ kept n a bytes → after ≡ stepRead s l a bytes
-    unfolding stepRead
-    read-moved bytes after e ea = rw (in-fits .0, ← end-is, e, ea, keep-is bytes)
+pub begin-to : (c : Call) (l : Lent) (m : Move) (s : Stepped) → went.To m ≡ firstMove c (l .list) (length (l .written)) (l .room) → s ≡ handed c (l .written) m → begun.Accepted s ≡ begin c l
+begin-to c l m s q e = ap begun.Accepted e ∙ ap (begunBy c (l .written)) q ∙ sym (begin-went c l)
+
+pub begin-refused : (c : Call) (l : Lent) (e : Error) → went.Refused e ≡ firstMove c (l .list) (length (l .written)) (l .room) → begun.Refused e ≡ begin c l
+begin-refused c l e q = ap (begunBy c (l .written)) q ∙ sym (begin-went c l)
+
+pub stepped-to : (s : State) (bytes : List ℕ) (w : Went) (m : Move) (out : Stepped) → w ≡ went.To m → out ≡ handed (s .call) bytes m → out ≡ steppedBy s bytes w
+stepped-to s bytes w m out q e = e ∙ ap (steppedBy s bytes) (sym q)
+
+pub stepped-refused : (s : State) (bytes : List ℕ) (w : Went) (e : Error) (x : Ending) → w ≡ went.Refused e → x ≡ failed e
+    → _≡_ {A = Stepped} (record { state = s; next = next.End x }) (steppedBy s bytes w)
+stepped-refused s bytes w e x q ex = rw (ex, q)
+
+pub stepped-is : (s : State) (l : Lent) (a : ℕ) (w : Went) (out : Stepped) → w ≡ nextMove s (l .list) (length (l .written)) (l .room) a → out ≡ steppedBy s (l .written) w → out ≡ step s l a
+stepped-is s l a w out q e = e ∙ ap (steppedBy s (l .written)) q ∙ sym (step-went s l a)
+
+pub read-went : (s : State) (l : Lent) (a : ℕ) (bytes : List ℕ) → stepRead s l a bytes ≡ nextRead s (l .list) (length (l .written)) (l .room) a bytes
+unfolding stepRead nextRead
+read-went s l a bytes = refl

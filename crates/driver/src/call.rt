@@ -4,13 +4,9 @@ ghost use mathlib.Core.Path.{_≡_};
 ghost use lib.ListN.{length};
 ghost use Rattle.master.specs.Machine.{startWith, foundRun};
 ghost use Rattle.master.specs.Calls.{misshapen, lentWith};
-ghost use Rattle.master.specs.Steps.{handed, begin, refused, step, stepRead};
+ghost use Rattle.master.specs.Steps.{handed, begin, step, stepRead};
 ghost use Rattle.driver.specs.Standing.{stands};
-use crate::fits;
-use crate::frame;
-use crate::lent;
-use crate::lent::Looked;
-use crate::owed;
+ghost use Rattle.driver.specs.Went.{firstMove, takenIn, takenRead, nextMove, nextRead, steppedBy};
 use access::Error;
 use access::Next;
 use master::Begun;
@@ -27,11 +23,22 @@ use operations::Run;
 use operations::shape;
 use stages::advance;
 use stages::progress;
+use standing::fits;
+use standing::frame;
+use standing::lent;
+use standing::lent::Looked;
+use standing::owed;
 
 // Where a state stands in what is lent: in a run, if it fits.
 pub enum Standing {
     Nowhere,
     In(Run),
+}
+
+// Where begin or a step leads: a move, or a refusal, which changes nothing.
+pub enum Went {
+    To(Move),
+    Refused(Error),
 }
 
 // A list that is not whole operations with the direction 0 or 1.
@@ -56,36 +63,17 @@ fn start(g: Setting, found: FoundRun) -> Move
     }
 }
 
-// A state with what it hands out, where these bytes are lent to write.
-fn handed(call: Call, written: &[u8], to: Move) -> Stepped
-    ensures { λ r. ⌜ r ≡ handed call (now (written .entry)) to ⌝ }
-{
-    let stage = to.stage;
-    let progress = to.progress;
-    let need = owed::owed_at(frame::setting_of(call), stage, progress);
-    Stepped {
-        state: State {
-            call,
-            stage,
-            progress,
-        },
-        next: access::need::fill(need, written),
-    }
-}
-
-// `room` is how many bytes are lent to read.
-pub fn begin(call: Call, list: &[u8], written: &[u8], room: usize) -> Begun
-    ensures { λ r. ⌜ r ≡ begin call (lentWith (now (list .entry)) (now (written .entry)) room) ⌝ }
+// Where a call begins, with so many bytes lent to write and to read.
+pub fn first_move(call: Call, list: &[u8], written: usize, room: usize) -> Went
+    ensures { λ r. ⌜ r ≡ firstMove call (now (list .entry)) written room ⌝ }
 {
     let kind = call.kind;
     if misshapen(kind, list) {
-        return Begun::Refused(Error::InvalidArgument);
+        return Went::Refused(Error::InvalidArgument);
     }
-    match lent::look(kind, call.address, list, written.len(), room, 0) {
-        Looked::Refused(error) => Begun::Refused(error),
-        Looked::Found(found) => {
-            Begun::Accepted(handed(call, written, start(frame::setting_of(call), found)))
-        }
+    match lent::look(kind, call.address, list, written, room, 0) {
+        Looked::Refused(error) => Went::Refused(error),
+        Looked::Found(found) => Went::To(start(frame::setting_of(call), found)),
     }
 }
 
@@ -123,13 +111,72 @@ fn stands(state: State, list: &[u8], written: usize, room: usize) -> Standing
     }
 }
 
-// A step that is refused changes nothing.
-fn refused(state: State) -> Stepped
-    ensures { λ r. ⌜ r ≡ refused state ⌝ }
+// Takes an answer where a state stands in a run: a byte read is kept.
+fn taken(state: State, run: Run, read: &mut [u8], answer: u16) -> Went
+    ensures { λ r. ⌜ r ≡ takenIn state run answer ⌝ }
+    ensures { λ _. ⌜ now (read .exit) ≡ takenRead state answer (now (read .entry)) ⌝ }
 {
+    let call = state.call;
+    let stage = state.stage;
+    let progress = state.progress;
+    let g = frame::setting_of(call);
+    let need = owed::taken_at(g, stage, progress);
+    if access::need::is_end(need) {
+        return Went::Refused(Error::InvalidState);
+    }
+    access::need::keep(need, answer, read);
+    Went::To(advance::advance_at(g, run, stage, progress, answer))
+}
+
+// Where an answer leads, with so many bytes lent to write.
+pub fn next_move(state: State, list: &[u8], written: usize, read: &mut [u8], answer: u16) -> Went
+    ensures { λ r. ⌜ r ≡ nextMove state (now (list .entry)) written (length (now (read .entry))) answer ⌝ }
+    ensures { λ r. ⌜ now (read .exit) ≡ nextRead state (now (list .entry)) written (length (now (read .entry))) answer (now (read .entry)) ⌝ }
+{
+    match stands(state, list, written, read.len()) {
+        Standing::Nowhere => Went::Refused(Error::InvalidState),
+        Standing::In(run) => taken(state, run, read, answer),
+    }
+}
+
+// A state with what it hands out, where these bytes are lent to write.
+pub fn handed(call: Call, written: &[u8], to: Move) -> Stepped
+    ensures { λ r. ⌜ r ≡ handed call (now (written .entry)) to ⌝ }
+{
+    let stage = to.stage;
+    let progress = to.progress;
+    let need = owed::owed_at(frame::setting_of(call), stage, progress);
     Stepped {
-        state,
-        next: Next::End(access::ending::failed(Error::InvalidState)),
+        state: State {
+            call,
+            stage,
+            progress,
+        },
+        next: access::need::fill(need, written),
+    }
+}
+
+// `room` is how many bytes are lent to read.
+pub fn begin(call: Call, list: &[u8], written: &[u8], room: usize) -> Begun
+    ensures { λ r. ⌜ r ≡ begin call (lentWith (now (list .entry)) (now (written .entry)) room) ⌝ }
+{
+    match first_move(call, list, written.len(), room) {
+        Went::To(to) => Begun::Accepted(handed(call, written, to)),
+        Went::Refused(error) => Begun::Refused(error),
+    }
+}
+
+// What a step hands back, with these bytes lent to write.
+fn stepped(state: State, written: &[u8], went: Went) -> Stepped
+    ensures { λ r. ⌜ r ≡ steppedBy state (now (written .entry)) went ⌝ }
+{
+    let call = state.call;
+    match went {
+        Went::To(to) => handed(call, written, to),
+        Went::Refused(error) => Stepped {
+            state,
+            next: Next::End(access::ending::failed(error)),
+        },
     }
 }
 
@@ -137,23 +184,6 @@ pub fn step(state: State, list: &[u8], written: &[u8], read: &mut [u8], answer: 
     ensures { λ r. ⌜ r ≡ step state (lentWith (now (list .entry)) (now (written .entry)) (length (now (read .entry)))) answer ⌝ }
     ensures { λ r. ⌜ now (read .exit) ≡ stepRead state (lentWith (now (list .entry)) (now (written .entry)) (length (now (read .entry)))) answer (now (read .entry)) ⌝ }
 {
-    let call = state.call;
-    let stage = state.stage;
-    let progress = state.progress;
-    let g = frame::setting_of(call);
-    match stands(state, list, written.len(), read.len()) {
-        Standing::Nowhere => refused(state),
-        Standing::In(run) => {
-            let need = owed::taken_at(g, stage, progress);
-            if access::need::is_end(need) {
-                return refused(state);
-            }
-            access::need::keep(need, answer, read);
-            handed(
-                call,
-                written,
-                advance::advance_at(g, run, stage, progress, answer),
-            )
-        }
-    }
+    let went = next_move(state, list, written.len(), read, answer);
+    stepped(state, written, went)
 }

@@ -1,6 +1,2 @@
 // The blocking master: what a call begins with and what each step makes of an answer, checked against what is lent.
 pub mod call;
-pub mod fits;
-pub mod frame;
-pub mod lent;
-pub mod owed;

@@ -1,8 +1,8 @@
 -- `driver::call::begin` meets its contract.
 -- Assumes nothing.
 use borrow.Author.Needs.{needs}
-use mathlib.Core.Path.{_∙_, sym}
-use Rattle.driver.proofs.CallLaws.{begin-misshapen, begin-refused, begin-found}
+use mathlib.Core.Path.{_∙_, sym, ap}
+use Rattle.driver.proofs.CallLaws.{begin-to, begin-refused}
 use Rattle.driver.proofs.call.begin.Statement.{statement}
 use Rattle.driver.proofs.call.begin.Tie as tie
 
@@ -11,12 +11,8 @@ begin-spec =
     tie.close
     (tie.spec
     (λ c κs. search needs)
-    (λ c. begin-misshapen _ _ (sym (c .before .misshapen .ensures) ∙ c .if1 .taken))
-    (λ c κs. search needs)
-    (λ c. search needs)
     (λ c. search needs)
     (λ c κs. search needs)
-    (λ c κs. search needs)
-    (λ c κs. search needs)
-    (λ c. begin-refused _ _ (sym (c .before .before .before .before .before .misshapen .ensures) ∙ c .before .before .before .before .if1 .left) _ (sym (c .before .error .given .1) ∙ c .before .before .before .look .ensures))
-    (λ c. begin-found _ _ (sym (c .before .before .before .before .before .before .before .before .misshapen .ensures) ∙ c .before .before .before .before .before .before .before .if1 .left) _ _ _ _ (sym (c .before .before .before .before .found .given .1) ∙ c .before .before .before .before .before .before .look .ensures) (c .before .before .setting-of .ensures) (c .before .start .ensures) (c .handed .ensures)))
+    (λ c. search needs)
+    (λ c. begin-to _ _ _ _ (sym (c .before .before .to .given .1) ∙ c .before .before .before .before .first-move .ensures) (c .handed .ensures))
+    (λ c. begin-refused _ _ _ (sym (c .before .error .given .1) ∙ c .before .before .before .first-move .ensures)))
