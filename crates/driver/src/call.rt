@@ -2,10 +2,9 @@
 // lent again at each step, and checked as begin did.
 ghost use mathlib.Core.Path.{_≡_};
 ghost use lib.ListN.{length};
-ghost use Rattle.master.specs.Machine.{startWith, foundRun};
+ghost use Rattle.master.specs.Machine.{startWith};
 ghost use Rattle.master.specs.Calls.{misshapen, lentWith};
 ghost use Rattle.master.specs.Steps.{handed, begin, step, stepRead};
-ghost use Rattle.driver.specs.Standing.{stands};
 ghost use Rattle.driver.specs.Went.{firstMove, takenIn, takenRead, nextMove, nextRead, steppedBy};
 use access::Error;
 use access::Next;
@@ -17,23 +16,17 @@ use master::Setting;
 use master::Stage;
 use master::State;
 use master::Stepped;
-use operations::Direction;
+use needs::frame;
+use needs::owed;
 use operations::FoundRun;
 use operations::Run;
 use operations::shape;
 use stages::advance;
 use stages::progress;
-use standing::fits;
-use standing::frame;
+use standing::Standing;
 use standing::lent;
 use standing::lent::Looked;
-use standing::owed;
-
-// Where a state stands in what is lent: in a run, if it fits.
-pub enum Standing {
-    Nowhere,
-    In(Run),
-}
+use standing::stands;
 
 // Where begin or a step leads: a move, or a refusal, which changes nothing.
 pub enum Went {
@@ -77,40 +70,6 @@ pub fn first_move(call: Call, list: &[u8], written: usize, room: usize) -> Went
     }
 }
 
-// A run with nothing in it where there is none.
-fn found_run(found: FoundRun) -> Run
-    ensures { λ r. ⌜ r ≡ foundRun found ⌝ }
-{
-    match found {
-        FoundRun::At(run) => run,
-        FoundRun::Nothing => Run {
-            direction: Direction::Write,
-            length: 0,
-            before: 0,
-            more: false,
-        },
-    }
-}
-
-fn stands(state: State, list: &[u8], written: usize, room: usize) -> Standing
-    ensures { λ r. ⌜ r ≡ stands state (now (list .entry)) written room ⌝ }
-{
-    let call = state.call;
-    let kind = call.kind;
-    let stage = state.stage;
-    let progress = state.progress;
-    match lent::look(kind, call.address, list, written, room, progress.run) {
-        Looked::Refused(_) => Standing::Nowhere,
-        Looked::Found(found) => {
-            if fits::fits_found(frame::setting_of(call), found, stage, progress) {
-                Standing::In(found_run(found))
-            } else {
-                Standing::Nowhere
-            }
-        }
-    }
-}
-
 // Takes an answer where a state stands in a run: a byte read is kept.
 fn taken(state: State, run: Run, read: &mut [u8], answer: u16) -> Went
     ensures { λ r. ⌜ r ≡ takenIn state run answer ⌝ }
@@ -133,7 +92,7 @@ pub fn next_move(state: State, list: &[u8], written: usize, read: &mut [u8], ans
     ensures { λ r. ⌜ r ≡ nextMove state (now (list .entry)) written (length (now (read .entry))) answer ⌝ }
     ensures { λ r. ⌜ now (read .exit) ≡ nextRead state (now (list .entry)) written (length (now (read .entry))) answer (now (read .entry)) ⌝ }
 {
-    match stands(state, list, written, read.len()) {
+    match stands::stands(state, list, written, read.len()) {
         Standing::Nowhere => Went::Refused(Error::InvalidState),
         Standing::In(run) => taken(state, run, read, answer),
     }

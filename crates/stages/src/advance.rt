@@ -2,7 +2,8 @@
 ghost use mathlib.Core.Path.{_≡_};
 ghost use mathlib.Core.Bool.{_||_};
 ghost use Rattle.operations.specs.Operations.{isRead};
-ghost use Rattle.master.specs.Machine.{sendByte, begins, advanceAt, beginsAt};
+ghost use Rattle.master.specs.Machine.{sendByte, begins, beginsAt};
+ghost use Rattle.stages.specs.Advanced.{advancedAt};
 use crate::abort;
 use crate::address;
 use crate::finish;
@@ -45,7 +46,7 @@ fn send_byte(d: Progress) -> Move
 }
 
 pub fn advance_at(g: Setting, run: Run, stage: Stage, d: Progress, answer: u16) -> Move
-    ensures { λ r. ⌜ r ≡ advanceAt g run stage d answer ⌝ }
+    ensures { λ r. ⌜ r ≡ advancedAt g run stage d answer ⌝ }
 {
     let chip = g.chip;
     match stage {

@@ -1,2 +1,2 @@
 pub mod LookLaws
-pub mod TakenLaws
+pub mod StandingLaws

@@ -1,2 +1,2 @@
 pub mod Look
-pub mod Taken
+pub mod Standing

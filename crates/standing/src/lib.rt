@@ -1,5 +1,6 @@
-// Where a master call stands: the access that is owed there, what is lent, and whether the state fits it.
+// Where a master call stands in what is lent: what that is, and whether a state fits it.
 pub mod fits;
-pub mod frame;
 pub mod lent;
-pub mod owed;
+pub mod stands;
+
+pub use stands::Standing;
