@@ -18,6 +18,8 @@ use Rattle.operations.specs.declared.search.Run.{Run}
 use Rattle.operations.specs.declared.search.FoundRun.{FoundRun}
 use Rattle.master.specs.declared.call.Call.{Call}
 use Rattle.master.specs.declared.call.Setting.{Setting}
+use Rattle.master.specs.declared.stage.Stage.{Stage}
+use Rattle.master.specs.declared.state.Progress.{Progress}
 use Rattle.master.specs.declared.state.Move.{Move}
 use Rattle.master.specs.declared.state.State.{State}
 use Rattle.master.specs.declared.state.Stepped.{Stepped}
@@ -58,29 +60,26 @@ module _ (c : Call) (list : List ℕ) (written room : ℕ) where
 
 -- ---- what is made of an answer
 
-module _ (s : State) (a : ℕ) (g : Setting) (eg : g ≡ settingOf (s .call)) (n : Need) (en : n ≡ takenAt g (s .stage) (s .progress)) where
-  need-is : n ≡ taken (needOf s)
+module _ (g : Setting) (s : Stage) (d : Progress) (a : ℕ) (n : Need) (en : n ≡ takenAt g s d) where
+  end-is : isEnd n ≡ isEnd (owedAt g s d)
   unfolding takenAt
-  need-is = en ∙ ap (λ (g : Setting). taken (owedAt g (s .stage) (s .progress))) eg
+  end-is = ap isEnd en ∙ taken-ends (owedAt g s d)
 
-  end-is : isEnd n ≡ isEnd (needOf s)
-  end-is = ap isEnd need-is ∙ taken-ends (needOf s)
+  pub read-kept : (old after : List ℕ) → after ≡ kept n a old → after ≡ takenRead g s d a old
+  unfolding takenRead takenAt
+  read-kept old after e = e ∙ ap (λ (n : Need). kept n a old) en ∙ taken-keeps (owedAt g s d) a old
 
-  pub read-kept : (old after : List ℕ) → after ≡ kept n a old → after ≡ takenRead s a old
+  pub read-ended : (old : List ℕ) → isEnd n ≡ true → old ≡ takenRead g s d a old
   unfolding takenRead
-  read-kept old after e = e ∙ ap (λ (n : Need). kept n a old) need-is ∙ taken-keeps (needOf s) a old
+  read-ended old e = end-keeps (owedAt g s d) a old (sym end-is ∙ e)
 
-  pub read-ended : (old : List ℕ) → isEnd n ≡ true → old ≡ takenRead s a old
-  unfolding takenRead
-  read-ended old e = end-keeps (needOf s) a old (sym end-is ∙ e)
-
-  pub taken-ended : (r : Run) → isEnd n ≡ true → went.Refused InvalidState ≡ takenIn s r a
+  pub taken-ended : (r : Run) → isEnd n ≡ true → went.Refused InvalidState ≡ takenIn g r s d a
   unfolding takenIn
   taken-ended r e = rw (← end-is, e)
 
-  pub taken-moved : (r : Run) (m : Move) → isEnd n ≡ false → m ≡ advancedAt g r (s .stage) (s .progress) a → went.To m ≡ takenIn s r a
+  pub taken-moved : (r : Run) (m : Move) → isEnd n ≡ false → m ≡ advancedAt g r s d a → went.To m ≡ takenIn g r s d a
   unfolding takenIn advancedAt
-  taken-moved r m e em = rw (← end-is, e, em, eg)
+  taken-moved r m e em = rw (← end-is, e, em)
 
 -- ---- where an answer leads
 
@@ -94,18 +93,18 @@ module _ (s : State) (list : List ℕ) (written room : ℕ) (a : ℕ) where
   read-nowhere bytes q = rw (nowhere-fits s list written room q)
 
   module _ (r : Run) (q : In r ≡ stands s list written room) where
-    pub next-taken : (w : Went) → w ≡ takenIn s r a → w ≡ nextMove s list written room a
+    pub next-taken : (g : Setting) (w : Went) → g ≡ settingOf (s .call) → w ≡ takenIn g r (s .stage) (s .progress) a → w ≡ nextMove s list written room a
     unfolding nextMove takenIn
-    next-taken w e = e ∙ go (isEnd (needOf s))
+    next-taken g w eg e = e ∙ ap (λ (g : Setting). cond (isEnd (owedAt g (s .stage) (s .progress))) (went.Refused InvalidState) (went.To (advanceAt g r (s .stage) (s .progress) a))) eg ∙ go (isEnd (needOf s))
       where
         go : (b : Bool) → cond b (went.Refused InvalidState) (went.To (advanceAt (settingOf (s .call)) r (s .stage) (s .progress) a))
             ≡ cond (fitsLent s list written room && not b) (went.To (advanceAt (settingOf (s .call)) (runOf (shapeBy (s .call) list written room) (s .progress .run)) (s .stage) (s .progress) a)) (went.Refused InvalidState)
         go true = rw (in-fits s list written room r q .0)
         go false = rw (in-fits s list written room r q .0, in-fits s list written room r q .1)
 
-    pub read-taken : (bytes after : List ℕ) → after ≡ takenRead s a bytes → after ≡ nextRead s list written room a bytes
+    pub read-taken : (g : Setting) (bytes after : List ℕ) → g ≡ settingOf (s .call) → after ≡ takenRead g (s .stage) (s .progress) a bytes → after ≡ nextRead s list written room a bytes
     unfolding nextRead takenRead
-    read-taken bytes after e = e ∙ go (isEnd (needOf s)) refl
+    read-taken g bytes after eg e = e ∙ ap (λ (g : Setting). kept (owedAt g (s .stage) (s .progress)) a bytes) eg ∙ go (isEnd (needOf s)) refl
       where
         go : (b : Bool) → isEnd (needOf s) ≡ b → kept (needOf s) a bytes ≡ cond (fitsLent s list written room && not b) (kept (needOf s) a bytes) bytes
         go true z = sym (end-keeps (needOf s) a bytes z) ∙ sym (rw (in-fits s list written room r q .0))

@@ -10,12 +10,15 @@ use Rattle.access.specs.Endings.{failed}
 use Rattle.access.specs.Machine.{kept, isEnd}
 use Rattle.operations.specs.declared.search.Run.{Run}
 use Rattle.master.specs.declared.call.Call.{Call}
+use Rattle.master.specs.declared.call.Setting.{Setting}
+use Rattle.master.specs.declared.stage.Stage.{Stage}
+use Rattle.master.specs.declared.state.Progress.{Progress}
 use Rattle.master.specs.declared.state.Move.{Move}
 use Rattle.master.specs.declared.state.State.{State}
 use Rattle.master.specs.declared.state.Stepped.{Stepped}
 use Rattle.master.specs.declared.state.Begun.{Begun}
 use Rattle.master.specs.declared.state.Begun.the-variants as begun
-use Rattle.master.specs.Machine.{runOf, advanceAt, start}
+use Rattle.master.specs.Machine.{runOf, owedAt, advanceAt, start}
 use Rattle.master.specs.Calls.{settingOf, shapeBy, refusalBy}
 use Rattle.master.specs.Steps.{fitsLent, needOf, handed}
 use Rattle.driver.specs.declared.call.Went.{Went}
@@ -28,12 +31,12 @@ wentWith none m = To m
 unfoldable pub firstMove : Call → List ℕ → ℕ → ℕ → Went
 firstMove c list written room = wentWith (refusalBy (c .kind) (c .address) list written room) (start (shapeBy c list written room))
 
--- what is made of an answer where a state stands in a run
-unfoldable pub takenIn : State → Run → ℕ → Went
-takenIn s r a = cond (isEnd (needOf s)) (Refused InvalidState) (To (advanceAt (settingOf (s .call)) r (s .stage) (s .progress) a))
+-- what is made of an answer at a stage of a run
+unfoldable pub takenIn : Setting → Run → Stage → Progress → ℕ → Went
+takenIn g r s d a = cond (isEnd (owedAt g s d)) (Refused InvalidState) (To (advanceAt g r s d a))
 
-unfoldable pub takenRead : State → ℕ → List ℕ → List ℕ
-takenRead s a bytes = kept (needOf s) a bytes
+unfoldable pub takenRead : Setting → Stage → Progress → ℕ → List ℕ → List ℕ
+takenRead g s d a bytes = kept (owedAt g s d) a bytes
 
 -- where an answer leads
 unfoldable pub nextMove : State → List ℕ → ℕ → ℕ → ℕ → Went

@@ -12,6 +12,7 @@ use master::Begun;
 use master::Call;
 use master::Kind;
 use master::Move;
+use master::Progress;
 use master::Setting;
 use master::Stage;
 use master::State;
@@ -70,21 +71,17 @@ pub fn first_move(call: Call, list: &[u8], written: usize, room: usize) -> Went
     }
 }
 
-// Takes an answer where a state stands in a run: a byte read is kept.
-fn taken(state: State, run: Run, read: &mut [u8], answer: u16) -> Went
-    ensures { λ r. ⌜ r ≡ takenIn state run answer ⌝ }
-    ensures { λ _. ⌜ now (read .exit) ≡ takenRead state answer (now (read .entry)) ⌝ }
+// Takes an answer at a stage of a run: a byte read is kept.
+fn taken(g: Setting, run: Run, stage: Stage, d: Progress, read: &mut [u8], answer: u16) -> Went
+    ensures { λ r. ⌜ r ≡ takenIn g run stage d answer ⌝ }
+    ensures { λ _. ⌜ now (read .exit) ≡ takenRead g stage d answer (now (read .entry)) ⌝ }
 {
-    let call = state.call;
-    let stage = state.stage;
-    let progress = state.progress;
-    let g = frame::setting_of(call);
-    let need = owed::taken_at(g, stage, progress);
+    let need = owed::taken_at(g, stage, d);
     if access::need::is_end(need) {
         return Went::Refused(Error::InvalidState);
     }
     access::need::keep(need, answer, read);
-    Went::To(advance::advance_at(g, run, stage, progress, answer))
+    Went::To(advance::advance_at(g, run, stage, d, answer))
 }
 
 // Where an answer leads, with so many bytes lent to write.
@@ -92,9 +89,12 @@ pub fn next_move(state: State, list: &[u8], written: usize, read: &mut [u8], ans
     ensures { λ r. ⌜ r ≡ nextMove state (now (list .entry)) written (length (now (read .entry))) answer ⌝ }
     ensures { λ r. ⌜ now (read .exit) ≡ nextRead state (now (list .entry)) written (length (now (read .entry))) answer (now (read .entry)) ⌝ }
 {
+    let call = state.call;
+    let stage = state.stage;
+    let progress = state.progress;
     match stands::stands(state, list, written, read.len()) {
         Standing::Nowhere => Went::Refused(Error::InvalidState),
-        Standing::In(run) => taken(state, run, read, answer),
+        Standing::In(run) => taken(frame::setting_of(call), run, stage, progress, read, answer),
     }
 }
 

@@ -14,6 +14,7 @@ next-move-spec =
     (λ c. search needs)
     (λ c. search needs)
     (λ c κs. search needs)
+    (λ c κs. search needs)
     (λ c. (next-nowhere _ _ _ _ _ (sym (c .enum-told .given .1) ∙ c .before .before .stands .ensures), read-nowhere _ _ _ _ _ _ (sym (c .enum-told .given .1) ∙ c .before .before .stands .ensures)))
     (λ c. search needs)
-    (λ c. (next-taken _ _ _ _ _ _ (sym (c .before .before .before .before .before .run .given .1) ∙ c .before .before .before .before .before .before .before .stands .ensures) _ (c .before .before .taken .ensures .0), read-taken _ _ _ _ _ _ (sym (c .before .before .before .before .before .run .given .1) ∙ c .before .before .before .before .before .before .before .stands .ensures) _ _ (c .before .before .taken .ensures .1))))
+    (λ c. (next-taken _ _ _ _ _ _ (sym (c .before .before .before .before .before .before .run .given .1) ∙ c .before .before .before .before .before .before .before .before .stands .ensures) _ _ (c .before .before .before .before .setting-of .ensures) (c .before .before .taken .ensures .0), read-taken _ _ _ _ _ _ (sym (c .before .before .before .before .before .before .run .given .1) ∙ c .before .before .before .before .before .before .before .before .stands .ensures) _ _ _ (c .before .before .before .before .setting-of .ensures) (c .before .before .taken .ensures .1))))

@@ -12,9 +12,8 @@ taken-spec =
     (tie.spec
     (λ c κs. search needs)
     (λ c κs. search needs)
-    (λ c κs. search needs)
-    (λ c. (taken-ended (c .before .before .before .before .before .before .before .args .state) (c .before .before .before .before .before .before .before .args .answer) _ (c .before .before .before .setting-of .ensures) _ (c .before .before .taken-at .ensures) (c .before .before .before .before .before .before .before .args .run) (sym (c .before .is-end .ensures) ∙ c .if1 .taken), read-ended (c .before .before .before .before .before .before .before .args .state) (c .before .before .before .before .before .before .before .args .answer) _ (c .before .before .before .setting-of .ensures) _ (c .before .before .taken-at .ensures) _ (sym (c .before .is-end .ensures) ∙ c .if1 .taken)))
+    (λ c. (taken-ended _ _ _ _ _ (c .before .before .taken-at .ensures) _ (sym (c .before .is-end .ensures) ∙ c .if1 .taken), read-ended _ _ _ _ _ (c .before .before .taken-at .ensures) _ (sym (c .before .is-end .ensures) ∙ c .if1 .taken)))
     (λ c κs. search needs)
     (λ c κs. search needs)
     (λ c. search needs)
-    (λ c. (taken-moved (c .before .before .before .before .before .before .before .before .before .before .before .before .args .state) (c .before .before .before .before .before .before .before .before .before .before .before .before .args .answer) _ (c .before .before .before .before .before .before .before .before .setting-of .ensures) _ (c .before .before .before .before .before .before .before .taken-at .ensures) (c .before .before .before .before .before .before .before .before .before .before .before .before .args .run) _ (sym (c .before .before .before .before .before .before .is-end .ensures) ∙ c .before .before .before .before .before .if1 .left) (c .advance-at .ensures), read-kept (c .before .before .before .before .before .before .before .before .before .before .before .before .args .state) (c .before .before .before .before .before .before .before .before .before .before .before .before .args .answer) _ (c .before .before .before .before .before .before .before .before .setting-of .ensures) _ (c .before .before .before .before .before .before .before .taken-at .ensures) _ _ (c .before .before .before .keep .ensures))))
+    (λ c. (taken-moved _ _ _ _ _ (c .before .before .before .before .before .before .before .taken-at .ensures) _ _ (sym (c .before .before .before .before .before .before .is-end .ensures) ∙ c .before .before .before .before .before .if1 .left) (c .advance-at .ensures), read-kept _ _ _ _ _ (c .before .before .before .before .before .before .before .taken-at .ensures) _ _ (c .before .before .before .keep .ensures))))
