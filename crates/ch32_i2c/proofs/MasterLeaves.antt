@@ -20,12 +20,17 @@ use Rattle.ch32_i2c.proofs.LeavesLaws.{left-leaves, read-leaves, refuse
 use Rattle.master.specs.declared.call.Call.{Call}
 use Rattle.master.specs.declared.call.FrameOptions.{FrameOptions}
 use Rattle.master.specs.declared.call.Kind.the-variants as kind
+use Rattle.master.specs.declared.state.Move.{Move}
 use Rattle.master.specs.declared.state.State.{State}
 use Rattle.master.specs.declared.state.Stepped.{Stepped}
 use Rattle.master.specs.declared.state.Begun.{Begun}
 use Rattle.master.specs.declared.state.Begun.the-variants as begun
 use Rattle.master.specs.Calls.{Lent, lentWith}
-use Rattle.master.specs.Steps.{begin, step, stepRead}
+use Rattle.master.specs.Steps.{stateAt, handed, begin, step, stepRead}
+use Rattle.driver.specs.declared.call.Went.{Went}
+use Rattle.driver.specs.declared.call.Went.the-variants as went
+use Rattle.driver.specs.Went.{firstMove, nextMove, nextRead, steppedBy}
+use Rattle.driver.proofs.CallLaws as call
 use Rattle.images.specs.declared.master_image.MasterFound.{MasterFound}
 use Rattle.images.specs.declared.master_image.MasterFound.the-variants as found
 use Rattle.images.specs.MasterImage.{masterFields, masterIn, frameOptionsOf}
@@ -43,16 +48,17 @@ module _ (unknown : Bool) (c : Call) (b : List ℕ) (l : Lent) (r : List ℕ) (n
     unfolding masterBegin
     begin-unknown e k = refused-leaves _ InvalidArgument n b r k (then b (unknown) _ _ _ size e)
 
-    pub begin-accepted : unknown ≡ false → (s : Stepped) → begin c l ≡ begun.Accepted s → n ≡ nextNumber (s .next) → HoldsWords (s .next) → (b′ : List ℕ)
-        → b′ ≡ bytesOf (masterFields (s .state)) → Leaves (masterBegin unknown c b l r) n b′ r
+    pub begin-accepted : unknown ≡ false → (m : Move) → went.To m ≡ firstMove c (l .list) (length (l .written)) (l .room) → n ≡ nextNumber (handed c (l .written) m .next) → HoldsWords (handed c (l .written) m .next) → (b′ : List ℕ)
+        → b′ ≡ bytesOf (masterFields (stateAt c m)) → Leaves (masterBegin unknown c b l r) n b′ r
     unfolding masterBegin
-    begin-accepted e s q k w b′ eb =
-        left-leaves _ (s .next) n b′ (bytesOf (masterFields (s .state))) r k w eb (ap (λ (g : Begun). begunLeft g b r) (sym q) ∙ else b (unknown) (refusedWith InvalidArgument b r) (begunLeft (begin c l) b r) (refusedWith InvalidState b r) size e)
+    begin-accepted e m q k w b′ eb =
+        left-leaves _ (handed c (l .written) m .next) n b′ (bytesOf (masterFields (stateAt c m))) r k w eb
+        (ap (λ (g : Begun). begunLeft g b r) (call.begin-to c l m (handed c (l .written) m) q refl) ∙ else b (unknown) (refusedWith InvalidArgument b r) (begunLeft (begin c l) b r) (refusedWith InvalidState b r) size e)
 
-    pub begin-refused : unknown ≡ false → (f : Error) → begin c l ≡ begun.Refused f → n ≡ nextNumber (next.End (failed f)) → Leaves (masterBegin unknown c b l r) n b r
+    pub begin-refused : unknown ≡ false → (f : Error) → went.Refused f ≡ firstMove c (l .list) (length (l .written)) (l .room) → n ≡ nextNumber (next.End (failed f)) → Leaves (masterBegin unknown c b l r) n b r
     unfolding masterBegin
     begin-refused e f q k =
-        refused-leaves _ f n b r k (ap (λ (g : Begun). begunLeft g b r) (sym q) ∙ else b (unknown) (refusedWith InvalidArgument b r) (begunLeft (begin c l) b r) (refusedWith InvalidState b r) size e)
+        refused-leaves _ f n b r k (ap (λ (g : Begun). begunLeft g b r) (call.begin-refused c l f q) ∙ else b (unknown) (refusedWith InvalidArgument b r) (begunLeft (begin c l) b r) (refusedWith InvalidState b r) size e)
 
 -- ---- what a block holds
 
@@ -81,12 +87,31 @@ module _ (entry : ℕ) (b list written r : List ℕ) (a : ℕ) (n : ℕ) where
   unfolding masterStep
   step-nothing e k = refused-leaves _ InvalidState n b r k (ap (λ (f : MasterFound). heldLeft f b list written r a) e)
 
-  pub step-held : (s : State) → found.At s ≡ masterHeld entry b → (out : Stepped) → out ≡ step s (lentWith list written (length r)) a → n ≡ nextNumber (out .next) → HoldsWords (out .next) → (b′ : List ℕ)
-      → b′ ≡ bytesOf (masterFields (out .state)) → (r′ : List ℕ) → r′ ≡ stepRead s (lentWith list written (length r)) a r → Leaves (masterStep entry b list written r a) n b′ r′
+  pub step-held : (s : State) → found.At s ≡ masterHeld entry b → (w : Went) → w ≡ nextMove s list (length written) (length r) a → n ≡ nextNumber (steppedBy s written w .next) → HoldsWords (steppedBy s written w .next) → (b′ : List ℕ)
+      → b′ ≡ bytesOf (masterFields (steppedBy s written w .state)) → (r′ : List ℕ) → r′ ≡ nextRead s list (length written) (length r) a r → Leaves (masterStep entry b list written r a) n b′ r′
   unfolding masterStep
-  step-held s e out eo k w b′ eb r′ er =
-      read-leaves _ (out .next) n b′ (bytesOf (masterFields (out .state))) r′ (stepRead s (lentWith list written (length r)) a r) k w eb er
-      (ap (λ (o : Stepped). left (o .next) (bytesOf (masterFields (o .state))) (stepRead s (lentWith list written (length r)) a r)) eo ∙ ap (λ (f : MasterFound). heldLeft f b list written r a) e)
+  step-held s e w ew k h b′ eb r′ er =
+      let l = lentWith list written (length r) in
+      let out = steppedBy s written w in
+      read-leaves _ (out .next) n b′ (bytesOf (masterFields (out .state))) r′ (stepRead s l a r) k h eb (er ∙ sym (call.read-went s l a r))
+      (ap (λ (o : Stepped). left (o .next) (bytesOf (masterFields (o .state))) (stepRead s l a r)) (call.stepped-is s l a w out ew refl) ∙ ap (λ (f : MasterFound). heldLeft f b list written r a) e)
+
+-- ---- what is left where a call goes
+
+pub left-handed : (c : Call) (bytes : List ℕ) (m : Move) (s : Stepped) (n : ℕ) (g : Fields) (b′ : List ℕ) → s ≡ handed c bytes m → n ≡ nextNumber (s .next) → HoldsWords (s .next) → g ≡ masterFields (s .state) → b′ ≡ bytesOf g
+    → (n ≡ nextNumber (handed c bytes m .next)) × (HoldsWords (handed c bytes m .next) × (b′ ≡ bytesOf (masterFields (stateAt c m))))
+left-handed c bytes m s n g b′ e k h eg eb =
+    subst (λ (o : Stepped). (n ≡ nextNumber (o .next)) × (HoldsWords (o .next) × (b′ ≡ bytesOf (masterFields (o .state))))) e (k, (h, eb ∙ ap bytesOf eg))
+
+module _ (s : State) (bytes : List ℕ) (w : Went) (n : ℕ) (b′ : List ℕ) where
+  abbrev StepLeft : Type 0
+  StepLeft = (n ≡ nextNumber (steppedBy s bytes w .next)) × (HoldsWords (steppedBy s bytes w .next) × (b′ ≡ bytesOf (masterFields (steppedBy s bytes w .state))))
+
+  pub left-to : (m : Move) → w ≡ went.To m → n ≡ nextNumber (handed (s .call) bytes m .next) → HoldsWords (handed (s .call) bytes m .next) → b′ ≡ bytesOf (masterFields (stateAt (s .call) m)) → StepLeft
+  left-to m e k h eb = rw e (k, (h, eb))
+
+  pub left-refused : (f : Error) (g : Fields) → w ≡ went.Refused f → n ≡ nextNumber (next.End (failed f)) → g ≡ masterFields s → b′ ≡ bytesOf g → StepLeft
+  left-refused f g e k eg eb = rw e (k, (tt, eb ∙ ap bytesOf eg))
 
 -- ---- the call that C's numbers mean
 

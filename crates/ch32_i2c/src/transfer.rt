@@ -5,19 +5,22 @@ ghost use Rattle.access.specs.Numbers.{nextNumber, HoldsWords};
 ghost use Rattle.block.specs.Bytes32.{bytesOf, blockSize};
 ghost use Rattle.images.specs.MasterImage.{masterFields};
 ghost use Rattle.master.specs.Calls.{lentWith};
+ghost use Rattle.master.specs.Steps.{stateAt, handed};
+ghost use Rattle.driver.specs.Went.{steppedBy};
 ghost use Rattle.ch32_i2c.specs.Left.{Leaves, LeavesBlock};
 ghost use Rattle.ch32_i2c.specs.Transfer.{callOf, masterLeft, masterBegin, masterHeld, masterStep, transactionBegin, transactionStep, writeReadBegin, writeReadStep, writeBegin, writeStep, readBegin, readStep};
 use crate::left;
 use access::Error;
 use block::bytes32;
 use driver::call;
+use driver::call::Went;
 use images::master_image;
 use images::master_image::MasterFound;
 use images::numbers;
-use master::Begun;
 use master::Call;
 use master::Kind;
-use master::Stepped;
+use master::Move;
+use master::State;
 
 // The call that C's numbers mean.
 fn call_of(chip: u8, address: u8, kind: Kind) -> Call
@@ -30,13 +33,14 @@ fn call_of(chip: u8, address: u8, kind: Kind) -> Call
     }
 }
 
-// Leaves a state in the block, and hands out what it owes.
-fn leave(block: &mut [u8], stepped: Stepped) -> u64
+// Leaves in the block where a call goes, and hands out what it owes there.
+fn leave(block: &mut [u8], call: Call, written: &[u8], to: Move) -> u64
     requires { ⌜ length (now block) ≡ blockSize ⌝ }
-    ensures { λ r. ⌜ r ≡ nextNumber (stepped .next) ⌝ }
-    ensures { λ _. ⌜ HoldsWords (stepped .next) ⌝ }
-    ensures { λ _. ⌜ now (block .exit) ≡ bytesOf (masterFields (stepped .state)) ⌝ }
+    ensures { λ r. ⌜ r ≡ nextNumber (handed call (now (written .entry)) to .next) ⌝ }
+    ensures { λ _. ⌜ HoldsWords (handed call (now (written .entry)) to .next) ⌝ }
+    ensures { λ _. ⌜ now (block .exit) ≡ bytesOf (masterFields (stateAt call to)) ⌝ }
 {
+    let stepped = call::handed(call, written, to);
     let state = stepped.state;
     let next = stepped.next;
     bytes32::put(block, master_image::master_fields(state));
@@ -60,9 +64,9 @@ fn begin(
     if unknown {
         return left::refusal(Error::InvalidArgument);
     }
-    match call::begin(call, list, written, read.len()) {
-        Begun::Accepted(stepped) => leave(block, stepped),
-        Begun::Refused(error) => left::refusal(error),
+    match call::first_move(call, list, written.len(), read.len()) {
+        Went::To(to) => leave(block, call, written, to),
+        Went::Refused(error) => left::refusal(error),
     }
 }
 
@@ -80,6 +84,23 @@ fn held(entry: u8, block: &[u8]) -> MasterFound
     master_image::master_in(fields)
 }
 
+// Leaves in the block where a step led. A refused step leaves the state as it was.
+fn leave_step(block: &mut [u8], state: State, written: &[u8], went: Went) -> u64
+    requires { ⌜ length (now block) ≡ blockSize ⌝ }
+    ensures { λ r. ⌜ r ≡ nextNumber (steppedBy state (now (written .entry)) went .next) ⌝ }
+    ensures { λ _. ⌜ HoldsWords (steppedBy state (now (written .entry)) went .next) ⌝ }
+    ensures { λ _. ⌜ now (block .exit) ≡ bytesOf (masterFields (steppedBy state (now (written .entry)) went .state)) ⌝ }
+{
+    let call = state.call;
+    match went {
+        Went::To(to) => leave(block, call, written, to),
+        Went::Refused(error) => {
+            bytes32::put(block, master_image::master_fields(state));
+            left::refusal(error)
+        }
+    }
+}
+
 fn step(
     entry: u8,
     block: &mut [u8],
@@ -92,8 +113,8 @@ fn step(
 {
     match held(entry, block) {
         MasterFound::At(state) => {
-            let stepped = call::step(state, list, written, read, answer);
-            leave(block, stepped)
+            let went = call::next_move(state, list, written.len(), read, answer);
+            leave_step(block, state, written, went)
         }
         MasterFound::Nothing => left::refusal(Error::InvalidState),
     }
