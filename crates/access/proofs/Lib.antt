@@ -3,3 +3,4 @@ pub mod NumberLaws
 pub mod Agreement
 pub mod Secrecy
 pub mod Example
+pub mod TakenLaws

@@ -35,9 +35,9 @@ use Rattle.driver.specs.declared.call.Went.{Went}
 use Rattle.driver.specs.declared.call.Went.the-variants as went
 use Rattle.driver.specs.Went.{wentWith, firstMove, takenIn, takenRead, nextMove, nextRead, begunBy, steppedBy}
 use Rattle.stages.specs.Advanced.{advancedAt}
-use Rattle.needs.specs.Taken.{taken, takenAt}
+use Rattle.needs.specs.Taken.{takenAt}
 use Rattle.standing.proofs.StandingLaws.{refused-cause, found-cause, nowhere-fits, in-fits}
-use Rattle.needs.proofs.TakenLaws.{taken-ends, taken-keeps, end-keeps}
+use Rattle.access.proofs.TakenLaws.{taken-ends, taken-keeps, end-keeps}
 
 -- ---- where a call begins
 

@@ -1,8 +1,9 @@
 // The access that is owed.
 ghost use mathlib.Core.Path.{_≡_};
-ghost use Rattle.needs.specs.Taken.{taken, takenAt};
+ghost use Rattle.needs.specs.Taken.{takenAt};
 ghost use Rattle.master.specs.Machine.{finishTransfer, onlyFrequency, startWord, owedFall, owedLaunch, owedWait, owedAddress, owedRecv, owedRead, owedStop, owedAbort, owedAt};
 use access::Need;
+use access::need;
 use master::Progress;
 use master::Setting;
 use master::Stage;
@@ -177,22 +178,7 @@ pub fn owed_at(g: Setting, stage: Stage, d: Progress) -> Need
     }
 }
 
-// What matters of a need once it has its answer: where a byte is kept, and the end.
-fn taken(need: Need) -> Need
-    ensures { λ r. ⌜ r ≡ taken need ⌝ }
-{
-    match need {
-        Need::Read(_) => Need::Clock,
-        Need::Write(_, _) => Need::Clock,
-        Need::Clock => Need::Clock,
-        Need::Send(_) => Need::Clock,
-        Need::Keep(place) => Need::Keep(place),
-        Need::Drop => Need::Clock,
-        Need::End(ending) => Need::End(ending),
-    }
-}
-
-// The same of what was owed, without the words that it wrote.
+// What matters of what was owed once it has its answer: without the words that it wrote.
 pub fn taken_at(g: Setting, stage: Stage, d: Progress) -> Need
     ensures { λ r. ⌜ r ≡ takenAt g stage d ⌝ }
 {
@@ -205,8 +191,8 @@ pub fn taken_at(g: Setting, stage: Stage, d: Progress) -> Need
         Stage::Wait(_, _) => Need::Clock,
         Stage::Address(_) => Need::Clock,
         Stage::SendByte => Need::Clock,
-        Stage::RecvByte(part) => taken(owed_recv(part, d)),
-        Stage::ReadIter(part) => taken(owed_read(frame.send_nack, part, d)),
+        Stage::RecvByte(part) => need::taken(owed_recv(part, d)),
+        Stage::ReadIter(part) => need::taken(owed_read(frame.send_nack, part, d)),
         Stage::GenerateStop(_, _) => Need::Clock,
         Stage::Abort(_) => Need::Clock,
         Stage::Ended => Need::End(ending),

@@ -1,8 +1,8 @@
--- `needs::owed::taken` meets its contract.
+-- `access::need::taken` meets its contract.
 -- Assumes nothing.
 use borrow.Author.Needs.{needs}
-use Rattle.needs.proofs.owed.taken.Statement.{statement}
-use Rattle.needs.proofs.owed.taken.Tie as tie
+use Rattle.access.proofs.need.taken.Statement.{statement}
+use Rattle.access.proofs.need.taken.Tie as tie
 
 pub taken-spec : {M : Type 1} → statement M
 taken-spec =
