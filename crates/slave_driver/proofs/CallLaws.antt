@@ -1,19 +1,37 @@
--- Begin and step, by how many bytes are lent.
+-- Where begin and a step lead, by how many bytes are lent.
 -- Assumes nothing.
-use mathlib.Core.Path.{_≡_, refl, sym, subst}
-use mathlib.Core.Bool.{Bool, true, false, not, _&&_, _||_}
+use mathlib.Core.Path.{_≡_, refl, sym, subst, ap, _∙_}
+use mathlib.Core.Bool.{Bool, true, false, not, cond, _&&_, _||_}
 use mathlib.Core.List.{List}
+use mathlib.Core.Option.{some, none}
 use Prim.Native.Nat.{ℕ, _+_, _≤_, _<_}
 use native.Mathlib.Omega.{arith}
 use borrow.Author.Tests.{lt-ltb, le-ltb, lt-leb, le-leb, leb-true}
-use lib.Dec.{leb}
+use lib.Dec.{leb, ltb}
 use Rattle.registers.specs.declared.chip.Chip.{Chip}
-use Rattle.access.specs.declared.ending.Error.the-variants.{BufferTooLong}
+use Rattle.access.specs.declared.ending.Error.the-variants.{BufferTooLong, InvalidState}
 use Rattle.access.specs.declared.need.Need.{Need}
+use Rattle.access.specs.declared.need.Need.the-variants as need
 use Rattle.access.specs.Endings.{hasFailed, isDone}
-use Rattle.access.specs.Machine.{kept, isEnd}
+use Rattle.access.specs.Machine.{kept, isEnd, taken}
 use Rattle.access.proofs.Choice.{first-true, second-true}
+use Rattle.access.proofs.TakenLaws.{taken-ends, taken-keeps}
+use Rattle.slave.specs.declared.stage.StopfFor.{StopfFor}
 use Rattle.slave.specs.declared.stage.StopfFor.the-variants as stopf
+use Rattle.slave.specs.declared.stage.StopfStage.{StopfStage}
+use Rattle.slave.specs.declared.stage.StopfStage.the-variants as stopf-stage
+use Rattle.slave.specs.declared.stage.StaleStage.{StaleStage}
+use Rattle.slave.specs.declared.stage.StaleStage.the-variants as stale
+use Rattle.slave.specs.declared.stage.ArmStage.{ArmStage}
+use Rattle.slave.specs.declared.stage.ArmStage.the-variants as arm
+use Rattle.slave.specs.declared.stage.MatchStage.{MatchStage}
+use Rattle.slave.specs.declared.stage.MatchStage.the-variants as match-stage
+use Rattle.slave.specs.declared.stage.Half.{Half}
+use Rattle.slave.specs.declared.stage.Half.the-variants as half
+use Rattle.slave.specs.declared.stage.ErrorStage.{ErrorStage}
+use Rattle.slave.specs.declared.stage.ErrorStage.the-variants as error-stage
+use Rattle.slave.specs.declared.stage.AbortStage.{AbortStage}
+use Rattle.slave.specs.declared.stage.AbortStage.the-variants as abort
 use Rattle.slave.specs.declared.stage.Stage.{Stage}
 use Rattle.slave.specs.declared.stage.Stage.the-variants.{ClearStopf, Stale, Arm, Poll, Match, Receive, Send, ClearAf, Errors, Abort, Ended}
 use Rattle.slave.specs.declared.state.Kind.{Kind}
@@ -22,13 +40,14 @@ use Rattle.slave.specs.declared.state.Setting.{Setting}
 use Rattle.slave.specs.declared.state.Progress.{Progress}
 use Rattle.slave.specs.declared.state.Move.{Move}
 use Rattle.slave.specs.declared.state.State.{State}
-use Rattle.slave.specs.declared.state.Stepped.{Stepped}
-use Rattle.slave.specs.declared.state.Begun.the-variants.{Accepted, Refused}
-use Rattle.slave.specs.Machine.{start, owedAt, advanceAt}
+use Rattle.slave.specs.Machine.{start, owedStopf, owedStale, owedArm, owedMatch, owedReceive, owedAf, owedErrors, owedAbort, owedAt, advanceAt}
 use Rattle.slave.specs.Fits.{isListen, isRespondToWrite, isRespondToRead, limit, counts, returns, fitsAt, fits}
-use Rattle.slave.specs.Calls.{SlaveLent, sizeOf, bytesOf}
-use Rattle.slave.specs.Steps.{settingIn, moveOf, handed, begin, refused, fitsLent, step, stepRead}
+use Rattle.slave.specs.Calls.{SlaveLent, sizeOf, bytesOf, settingOf}
+use Rattle.slave.specs.Steps.{settingIn, moveOf, needOf, isOpen, moved, begunWith, begin, refused, fitsLent, step, stepRead}
+use Rattle.slave_driver.specs.declared.call.Went.{Went}
+use Rattle.slave_driver.specs.declared.call.Went.the-variants as went
 use Rattle.slave_driver.specs.Lent.{bytesBy}
+use Rattle.slave_driver.specs.Went.{firstMove, takenAt, nextMove, nextRead, begunBy, steppedBy}
 
 -- the bytes lent for sending are those of the reply alone
 bytes-by : (x : Kind) (l : SlaveLent) → bytesBy x (l .reply) ≡ bytesOf x l
@@ -36,16 +55,16 @@ bytes-by Listen l = refl
 bytes-by RespondToWrite l = refl
 bytes-by RespondToRead l = refl
 
--- ---- begin
+-- ---- where a call begins
 
-module _ (chip : Chip) (x : Kind) (l : SlaveLent) (n : ℕ) (en : n ≡ sizeOf x l) where
-  pub begin-long : 65535 < n → Refused BufferTooLong ≡ begin chip x l
-  unfolding begin
-  begin-long h = rw (lt-ltb 65535 (sizeOf x l) (subst (λ (n : ℕ). 65535 < n) en h))
+module _ (chip : Chip) (x : Kind) (n : ℕ) where
+  pub first-long : 65535 < n → went.Refused BufferTooLong ≡ firstMove chip x n
+  unfolding firstMove
+  first-long h = rw (lt-ltb 65535 n h)
 
-  pub begin-taken : (m : Move) (s : Stepped) → n ≤ 65535 → m ≡ start x → s ≡ handed (record { chip = chip; kind = x; size = n }) (bytesBy x (l .reply)) m → Accepted s ≡ begin chip x l
-  unfolding begin
-  begin-taken m s h em es = rw (le-ltb 65535 (sizeOf x l) (subst (λ (n : ℕ). n ≤ 65535) en h), es, em, en, bytes-by x l)
+  pub first-moved : (m : Move) → n ≤ 65535 → m ≡ start x → went.To (record { chip = chip; kind = x; size = n }) m ≡ firstMove chip x n
+  unfolding firstMove
+  first-moved m h em = rw (le-ltb 65535 n h, em)
 
 -- ---- which states fit
 
@@ -85,30 +104,142 @@ module _ (s : State) (n : ℕ) where
     unfolding fitsLent fits
     lent-counts = fits-counts (settingIn s n) (s .stage) (s .progress) (second-true (leb n 65535) (fits (settingIn s n) (moveOf s)) f)
 
--- ---- step
+-- ---- what is taken of a stage's access
 
-module _ (s : State) (l : SlaveLent) (a : ℕ) (n : ℕ) (en : n ≡ sizeOf (s .kind) l) where
-  pub step-unfit : (out : Stepped) → fitsLent s n ≡ false → out ≡ refused s → out ≡ step s l a
-  unfolding step
-  step-unfit out f eo = rw (← en, f, eo)
+module _ (g : Setting) (d : Progress) where
+  pub at-stopf : {s : Stage} {f : StopfFor} {p : StopfStage} → s ≡ ClearStopf f p → need.Clock ≡ takenAt g s d
+  unfolding takenAt
+  at-stopf {s} {f} {p} e = rw e (go p)
+    where
+      go : (p : StopfStage) → need.Clock ≡ taken (owedStopf p d)
+      go stopf-stage.Status = refl
+      go stopf-stage.Read = refl
+      go stopf-stage.Write = refl
 
-  pub read-unfit : (bytes : List ℕ) → fitsLent s n ≡ false → bytes ≡ stepRead s l a bytes
-  unfolding stepRead
-  read-unfit bytes f = rw (← en, f)
+  pub at-stale : {s : Stage} {p : StaleStage} → s ≡ Stale p → need.Clock ≡ takenAt g s d
+  unfolding takenAt
+  at-stale {s} {p} e = rw e (go p)
+    where
+      go : (p : StaleStage) → need.Clock ≡ taken (owedStale p d)
+      go stale.Status = refl
+      go stale.Clear = refl
 
-  module _ (f : fitsLent s n ≡ true) (k : Need) (ek : k ≡ owedAt (settingIn s n) (s .stage) (s .progress)) where
-    pub step-ended : (out : Stepped) → isEnd k ≡ true → out ≡ refused s → out ≡ step s l a
-    unfolding step
-    step-ended out e eo = rw (← en, f, ← ek, e, eo)
+  pub at-arm : {s : Stage} {p : ArmStage} → s ≡ Arm p → need.Clock ≡ takenAt g s d
+  unfolding takenAt
+  at-arm {s} {p} e = rw e (go p)
+    where
+      go : (p : ArmStage) → need.Clock ≡ taken (owedArm p d)
+      go arm.BufferRead = refl
+      go arm.BufferWrite = refl
+      go arm.AckRead = refl
+      go arm.AckWrite = refl
 
-    pub read-ended : (bytes : List ℕ) → isEnd k ≡ true → bytes ≡ stepRead s l a bytes
-    unfolding stepRead
-    read-ended bytes e = rw (← en, f, ← ek, e)
+  pub at-poll : {s : Stage} → s ≡ Poll → need.Clock ≡ takenAt g s d
+  unfolding takenAt
+  at-poll {s} e = rw e
 
-    pub step-moved : (m : Move) (out : Stepped) → isEnd k ≡ false → m ≡ advanceAt (settingIn s n) (s .stage) (s .progress) a → out ≡ handed (settingIn s n) (bytesBy (s .kind) (l .reply)) m → out ≡ step s l a
-    unfolding step
-    step-moved m out e em eo = rw (← en, f, ← ek, e, eo, em, bytes-by (s .kind) l)
+  pub at-match : {s : Stage} {p : MatchStage} → s ≡ Match p → need.Clock ≡ takenAt g s d
+  unfolding takenAt
+  at-match {s} {p} e = rw e (go p)
+    where
+      go : (p : MatchStage) → need.Clock ≡ taken (owedMatch p)
+      go match-stage.Status = refl
+      go match-stage.Second = refl
+      go match-stage.Own = refl
 
-    pub read-moved : (bytes after : List ℕ) → isEnd k ≡ false → after ≡ kept k a bytes → after ≡ stepRead s l a bytes
-    unfolding stepRead
-    read-moved bytes after e ea = rw (← en, f, ← ek, e, ea)
+  pub at-receive : {s : Stage} (n t : Need) → s ≡ Receive → n ≡ owedReceive (g .size) d → t ≡ taken n → t ≡ takenAt g s d
+  unfolding takenAt
+  at-receive {s} n t e en et = rw (e, et, en)
+
+  pub at-send : {s : Stage} → s ≡ Send → need.Clock ≡ takenAt g s d
+  unfolding takenAt
+  at-send {s} e = rw e
+
+  pub at-af : {s : Stage} {p : Half} → s ≡ ClearAf p → need.Clock ≡ takenAt g s d
+  unfolding takenAt
+  at-af {s} {p} e = rw e (go p)
+    where
+      go : (p : Half) → need.Clock ≡ taken (owedAf p d)
+      go half.Read = refl
+      go half.Write = refl
+
+  pub at-errors : {s : Stage} {p : ErrorStage} → s ≡ Errors p → need.Clock ≡ takenAt g s d
+  unfolding takenAt
+  at-errors {s} {p} e = rw e (go p)
+    where
+      go : (p : ErrorStage) → need.Clock ≡ taken (owedErrors p d)
+      go error-stage.Clear = refl
+      go error-stage.Clock = refl
+
+  pub at-abort : {s : Stage} {p : AbortStage} → s ≡ Abort p → need.Clock ≡ takenAt g s d
+  unfolding takenAt
+  at-abort {s} {p} e = rw e (go p)
+    where
+      go : (p : AbortStage) → need.Clock ≡ taken (owedAbort p d)
+      go abort.DisableRead = refl
+      go abort.DisableWrite = refl
+      go abort.Busy = refl
+      go abort.StopRead = refl
+      go abort.StopWrite = refl
+
+  pub at-ended : {s : Stage} → s ≡ Ended → need.End (d .ending) ≡ takenAt g s d
+  unfolding takenAt
+  at-ended {s} e = rw e
+
+-- ---- where an answer leads
+
+module _ (s : State) (n a : ℕ) where
+  pub next-unfit : fitsLent s n ≡ false → went.Refused InvalidState ≡ nextMove s n a
+  unfolding nextMove
+  next-unfit f = rw f
+
+  pub read-unfit : (bytes : List ℕ) → fitsLent s n ≡ false → bytes ≡ nextRead s n a bytes
+  unfolding nextRead
+  read-unfit bytes f = rw f
+
+  module _ (f : fitsLent s n ≡ true) (k : Need) (ek : k ≡ takenAt (settingIn s n) (s .stage) (s .progress)) where
+    end-is : isEnd k ≡ isEnd (needOf s n)
+    unfolding takenAt
+    end-is = ap isEnd ek ∙ taken-ends (needOf s n)
+
+    pub next-ended : isEnd k ≡ true → went.Refused InvalidState ≡ nextMove s n a
+    unfolding nextMove
+    next-ended e = rw (f, ← end-is, e)
+
+    pub read-ended : (bytes : List ℕ) → isEnd k ≡ true → bytes ≡ nextRead s n a bytes
+    unfolding nextRead
+    read-ended bytes e = rw (f, ← end-is, e)
+
+    pub next-moved : (m : Move) → isEnd k ≡ false → m ≡ advanceAt (settingIn s n) (s .stage) (s .progress) a → went.To (settingIn s n) m ≡ nextMove s n a
+    unfolding nextMove
+    next-moved m e em = rw (f, ← end-is, e, em)
+
+    pub read-moved : (bytes after : List ℕ) → isEnd k ≡ false → after ≡ kept k a bytes → after ≡ nextRead s n a bytes
+    unfolding nextRead takenAt
+    read-moved bytes after e ea = ea ∙ ap (λ (k : Need). kept k a bytes) ek ∙ taken-keeps (needOf s n) a bytes ∙ sym (rw (f, ← end-is, e))
+
+-- ---- what is handed out
+
+-- begin is its first move, with what that hands out
+pub begin-went : (chip : Chip) (x : Kind) (l : SlaveLent) → begin chip x l ≡ begunBy (l .reply) (firstMove chip x (sizeOf x l))
+unfolding begin firstMove
+begin-went chip x l = go (ltb 65535 (sizeOf x l)) (bytes-by x l)
+  where
+    go : (b : Bool) → bytesBy x (l .reply) ≡ bytesOf x l → begunWith (cond b (some BufferTooLong) none) (settingOf chip x l) (bytesOf x l)
+        ≡ begunBy (l .reply) (cond b (went.Refused BufferTooLong) (went.To (record { chip = chip; kind = x; size = sizeOf x l }) (start x)))
+    go true e = refl
+    go false e = rw e
+
+-- and a step its next move
+pub step-went : (s : State) (l : SlaveLent) (a : ℕ) → step s l a ≡ steppedBy s (l .reply) (nextMove s (sizeOf (s .kind) l) a)
+unfolding step nextMove
+step-went s l a = go (isOpen s (sizeOf (s .kind) l)) (bytes-by (s .kind) l)
+  where
+    go : (b : Bool) → bytesBy (s .kind) (l .reply) ≡ bytesOf (s .kind) l → cond b (moved s l a) (refused s)
+        ≡ steppedBy s (l .reply) (cond b (went.To (settingIn s (sizeOf (s .kind) l)) (advanceAt (settingIn s (sizeOf (s .kind) l)) (s .stage) (s .progress) a)) (went.Refused InvalidState))
+    go true e = rw e
+    go false e = refl
+
+pub read-went : (s : State) (l : SlaveLent) (a : ℕ) (bytes : List ℕ) → stepRead s l a bytes ≡ nextRead s (sizeOf (s .kind) l) a bytes
+unfolding stepRead nextRead
+read-went s l a bytes = refl

@@ -1,2 +1,3 @@
 pub mod Validated
 pub mod Lent
+pub mod Went

@@ -1,16 +1,15 @@
-// A call: `begin` hands out the first access or refuses, and `step` takes an answer and hands out what follows. What is lent is
-// lent again at each step, and checked as begin did.
+// A call: its first move, where an answer leads, and what is handed out there. What is lent is lent again at each step, and
+// checked as begin did.
 ghost use mathlib.Core.Path.{_≡_};
 ghost use lib.ListN.{length};
-ghost use Rattle.slave.specs.Steps.{handed, begin, refused, step, stepRead};
-ghost use Rattle.slave_driver.specs.Lent.{lentWith, bytesBy};
+ghost use Rattle.slave.specs.Steps.{handed};
+ghost use Rattle.slave_driver.specs.Lent.{bytesBy};
+ghost use Rattle.slave_driver.specs.Went.{firstMove, nextMove, nextRead};
 use crate::fits;
 use crate::lent;
 use crate::owed;
 use access::Error;
-use access::Next;
 use registers::Chip;
-use slave::Begun;
 use slave::Kind;
 use slave::Move;
 use slave::Setting;
@@ -18,8 +17,56 @@ use slave::State;
 use slave::Stepped;
 use slave_stages::advance;
 
+// Where begin or a step leads: a move, or a refusal, which changes nothing.
+pub enum Went {
+    To(Setting, Move),
+    Refused(Error),
+}
+
+// Where a call begins, with so many bytes lent.
+pub fn first_move(chip: Chip, kind: Kind, size: usize) -> Went
+    ensures { λ r. ⌜ r ≡ firstMove chip kind size ⌝ }
+{
+    if 65535 < size {
+        return Went::Refused(Error::BufferTooLong);
+    }
+    Went::To(
+        Setting {
+            chip,
+            kind,
+            size: size as u16,
+        },
+        advance::start(kind),
+    )
+}
+
+// Where an answer leads, with so many bytes lent: a byte read is kept in the buffer.
+pub fn next_move(state: State, size: usize, buffer: &mut [u8], answer: u16) -> Went
+    ensures { λ r. ⌜ r ≡ nextMove state size answer ⌝ }
+    ensures { λ _. ⌜ now (buffer .exit) ≡ nextRead state size answer (now (buffer .entry)) ⌝ }
+{
+    let chip = state.chip;
+    let kind = state.kind;
+    let stage = state.stage;
+    let progress = state.progress;
+    if !fits::fits_lent(state, size) {
+        return Went::Refused(Error::InvalidState);
+    }
+    let g = Setting {
+        chip,
+        kind,
+        size: size as u16,
+    };
+    let need = owed::taken_at(g, stage, progress);
+    if access::need::is_end(need) {
+        return Went::Refused(Error::InvalidState);
+    }
+    access::need::keep(need, answer, buffer);
+    Went::To(g, advance::advance_at(g, stage, progress, answer))
+}
+
 // A state with what it hands out, where this reply is lent.
-fn handed(g: Setting, reply: &[u8], to: Move) -> Stepped
+pub fn handed(g: Setting, reply: &[u8], to: Move) -> Stepped
     ensures { λ r. ⌜ r ≡ handed g (bytesBy (g .kind) (now (reply .entry))) to ⌝ }
 {
     let chip = g.chip;
@@ -36,55 +83,4 @@ fn handed(g: Setting, reply: &[u8], to: Move) -> Stepped
         },
         next: lent::fill(kind, reply, need),
     }
-}
-
-// `reply` is the data of a reply, and `room` how many bytes the buffer of a receive takes.
-pub fn begin(chip: Chip, kind: Kind, reply: &[u8], room: usize) -> Begun
-    ensures { λ r. ⌜ r ≡ begin chip kind (lentWith (now (reply .entry)) room) ⌝ }
-{
-    let size = lent::size_of(kind, reply, room);
-    if 65535 < size {
-        return Begun::Refused(Error::BufferTooLong);
-    }
-    let g = Setting {
-        chip,
-        kind,
-        size: size as u16,
-    };
-    Begun::Accepted(handed(g, reply, advance::start(kind)))
-}
-
-// A step that is refused changes nothing.
-fn refused(state: State) -> Stepped
-    ensures { λ r. ⌜ r ≡ refused state ⌝ }
-{
-    Stepped {
-        state,
-        next: Next::End(access::ending::failed(Error::InvalidState)),
-    }
-}
-
-pub fn step(state: State, reply: &[u8], buffer: &mut [u8], answer: u16) -> Stepped
-    ensures { λ r. ⌜ r ≡ step state (lentWith (now (reply .entry)) (length (now (buffer .entry)))) answer ⌝ }
-    ensures { λ r. ⌜ now (buffer .exit) ≡ stepRead state (lentWith (now (reply .entry)) (length (now (buffer .entry)))) answer (now (buffer .entry)) ⌝ }
-{
-    let chip = state.chip;
-    let kind = state.kind;
-    let stage = state.stage;
-    let progress = state.progress;
-    let size = lent::size_of(kind, reply, buffer.len());
-    if !fits::fits_lent(state, size) {
-        return refused(state);
-    }
-    let g = Setting {
-        chip,
-        kind,
-        size: size as u16,
-    };
-    let need = owed::owed_at(g, stage, progress);
-    if access::need::is_end(need) {
-        return refused(state);
-    }
-    access::need::keep(need, answer, buffer);
-    handed(g, reply, advance::advance_at(g, stage, progress, answer))
 }

@@ -1,7 +1,9 @@
 // The access that is owed.
 ghost use mathlib.Core.Path.{_≡_};
 ghost use Rattle.slave.specs.Machine.{owedStopf, clearWord, owedStale, owedArm, owedMatch, owedReceive, owedAf, owedErrors, owedAbort, owedAt};
+ghost use Rattle.slave_driver.specs.Went.{takenAt};
 use access::Need;
+use access::need;
 use registers::Register;
 use registers::bits;
 use registers::flags;
@@ -125,6 +127,26 @@ pub fn owed_at(g: Setting, stage: Stage, d: Progress) -> Need
         Stage::ClearAf(half) => owed_af(half, d),
         Stage::Errors(part) => owed_errors(part, d),
         Stage::Abort(part) => owed_abort(part, d),
+        Stage::Ended => Need::End(ending),
+    }
+}
+
+// What matters of what was owed once it has its answer: without the words that it wrote.
+pub fn taken_at(g: Setting, stage: Stage, d: Progress) -> Need
+    ensures { λ r. ⌜ r ≡ takenAt g stage d ⌝ }
+{
+    let ending = d.ending;
+    match stage {
+        Stage::ClearStopf(_, _) => Need::Clock,
+        Stage::Stale(_) => Need::Clock,
+        Stage::Arm(_) => Need::Clock,
+        Stage::Poll => Need::Clock,
+        Stage::Match(_) => Need::Clock,
+        Stage::Receive => need::taken(owed_receive(g.size, d)),
+        Stage::Send => Need::Clock,
+        Stage::ClearAf(_) => Need::Clock,
+        Stage::Errors(_) => Need::Clock,
+        Stage::Abort(_) => Need::Clock,
         Stage::Ended => Need::End(ending),
     }
 }
