@@ -2,10 +2,10 @@
 -- Assumes nothing.
 use mathlib.Core.Path.{_≡_, refl, ap, sym, subst, _∙_}
 use mathlib.Core.Bool.{Bool, true, false, cond}
-use mathlib.Core.List.{List, []}
+use mathlib.Core.List.{List}
 use Prim.Native.Nat.{ℕ}
 use native.Mathlib.Omega.{arith}
-use lib.Dec.{eqb, ltb}
+use lib.Dec.{eqb}
 use lib.ListN.{length}
 use borrow.Author.Tests.{eq-eqb, ne-eqb}
 use Rattle.access.specs.declared.ending.Error.{Error}
@@ -15,8 +15,8 @@ use Rattle.access.specs.Endings.{failed}
 use Rattle.access.specs.Numbers.{nextNumber, HoldsWords}
 use Rattle.block.specs.declared.fields.Fields.{Fields}
 use Rattle.block.specs.Bytes32.{blockSize, fieldsOf, bytesOf}
-use Rattle.ch32_i2c.specs.Left.{Left, left, refusedWith, Leaves}
-use Rattle.ch32_i2c.proofs.LeavesLaws.{left-leaves, read-leaves, refused-leaves, short, whole, then, else, found-whole}
+use Rattle.ch32_i2c.specs.Left.{left, refusedWith, Leaves}
+use Rattle.ch32_i2c.proofs.LeavesLaws.{left-leaves, read-leaves, refused-leaves, short, then, else, found-whole}
 use Rattle.master.specs.declared.call.Call.{Call}
 use Rattle.master.specs.declared.call.FrameOptions.{FrameOptions}
 use Rattle.master.specs.declared.call.Kind.the-variants as kind
@@ -24,7 +24,6 @@ use Rattle.master.specs.declared.state.Move.{Move}
 use Rattle.master.specs.declared.state.State.{State}
 use Rattle.master.specs.declared.state.Stepped.{Stepped}
 use Rattle.master.specs.declared.state.Begun.{Begun}
-use Rattle.master.specs.declared.state.Begun.the-variants as begun
 use Rattle.master.specs.Calls.{Lent, lentWith}
 use Rattle.master.specs.Steps.{stateAt, handed, begin, step, stepRead}
 use Rattle.driver.specs.declared.call.Went.{Went}

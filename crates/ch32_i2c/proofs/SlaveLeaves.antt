@@ -1,8 +1,8 @@
 -- What begin and step of a slave call leave.
 -- Assumes nothing.
-use mathlib.Core.Path.{_≡_, refl, ap, sym, _∙_}
-use mathlib.Core.Bool.{Bool, true, false, cond}
-use mathlib.Core.List.{List, []}
+use mathlib.Core.Path.{_≡_, ap, sym, subst, _∙_}
+use mathlib.Core.Bool.{true, false, cond}
+use mathlib.Core.List.{List}
 use Prim.Native.Nat.{ℕ}
 use native.Mathlib.Omega.{arith}
 use lib.Dec.{eqb, ltb}
@@ -15,17 +15,22 @@ use Rattle.access.specs.Endings.{failed}
 use Rattle.access.specs.Numbers.{nextNumber, HoldsWords}
 use Rattle.block.specs.declared.fields.Fields.{Fields}
 use Rattle.block.specs.Bytes32.{blockSize, fieldsOf, bytesOf}
-use Rattle.ch32_i2c.specs.Left.{Left, left, refusedWith, Leaves}
-use Rattle.ch32_i2c.proofs.LeavesLaws.{left-leaves, read-leaves, refused-leaves, short, whole, then, else, found-whole}
+use Rattle.ch32_i2c.specs.Left.{left, refusedWith, Leaves}
+use Rattle.ch32_i2c.proofs.LeavesLaws.{left-leaves, read-leaves, refused-leaves, short, then, else, found-whole}
 use Rattle.registers.specs.declared.chip.Chip.{Chip}
 use Rattle.slave.specs.declared.state.Kind.{Kind}
+use Rattle.slave.specs.declared.state.Setting.{Setting}
+use Rattle.slave.specs.declared.state.Move.{Move}
 use Rattle.slave.specs.declared.state.State.{State}
 use Rattle.slave.specs.declared.state.Stepped.{Stepped}
 use Rattle.slave.specs.declared.state.Begun.{Begun}
-use Rattle.slave.specs.declared.state.Begun.the-variants as begun
-use Rattle.slave.specs.Calls.{SlaveLent}
-use Rattle.slave.specs.Steps.{begin, step, stepRead}
-use Rattle.slave_driver.specs.Lent.{lentWith}
+use Rattle.slave.specs.Calls.{sizeOf}
+use Rattle.slave.specs.Steps.{stateAt, handed, begin, step, stepRead}
+use Rattle.slave_driver.specs.Lent.{lentWith, bytesBy}
+use Rattle.slave_driver.specs.declared.call.Went.{Went}
+use Rattle.slave_driver.specs.declared.call.Went.the-variants as went
+use Rattle.slave_driver.specs.Went.{firstMove, nextMove, nextRead, begunBy, steppedBy}
+use Rattle.slave_driver.proofs.CallLaws as call
 use Rattle.images.specs.declared.slave_image.SlaveFound.{SlaveFound}
 use Rattle.images.specs.declared.slave_image.SlaveFound.the-variants as found
 use Rattle.images.specs.Numbers.{chipOf}
@@ -44,16 +49,19 @@ module _ (kind : Kind) (b : List ℕ) (chip : ℕ) (reply r : List ℕ) (n : ℕ
     unfolding slaveBegin
     begin-unknown e k = refused-leaves _ InvalidArgument n b r k (then b (ltb 3 chip) _ _ _ size e)
 
-    pub begin-accepted : ltb 3 chip ≡ false → (s : Stepped) → begin (chipOf chip) kind (lentWith reply (length r)) ≡ begun.Accepted s → n ≡ nextNumber (s .next) → HoldsWords (s .next) → (b′ : List ℕ)
-        → b′ ≡ bytesOf (slaveFields (s .state)) → Leaves (slaveBegin kind b chip reply r) n b′ r
-    unfolding slaveBegin
-    begin-accepted e s q k w b′ eb =
-        left-leaves _ (s .next) n b′ (bytesOf (slaveFields (s .state))) r k w eb (ap (λ (g : Begun). begunLeft g b r) (sym q) ∙ else b (ltb 3 chip) (refusedWith InvalidArgument b r) (begunLeft (begin (chipOf chip) kind (lentWith reply (length r))) b r) (refusedWith InvalidState b r) size e)
+    module _ (known : ltb 3 chip ≡ false) (k : Chip) (ek : k ≡ chipOf chip) (z : ℕ) (ez : z ≡ sizeOf kind (lentWith reply (length r))) where
+      begun-is : (w : Went) → w ≡ firstMove k kind z → begunLeft (begunBy reply w) b r ≡ slaveBegin kind b chip reply r
+      unfolding slaveBegin
+      begun-is w e =
+          ap (λ (w : Went). begunLeft (begunBy reply w) b r) (e ∙ ap (λ (k : Chip). firstMove k kind z) ek ∙ ap (firstMove (chipOf chip) kind) ez) ∙ ap (λ (g : Begun). begunLeft g b r) (sym (call.begin-went (chipOf chip) kind (lentWith reply (length r))))
+          ∙ else b (ltb 3 chip) (refusedWith InvalidArgument b r) (begunLeft (begin (chipOf chip) kind (lentWith reply (length r))) b r) (refusedWith InvalidState b r) size known
 
-    pub begin-refused : ltb 3 chip ≡ false → (f : Error) → begin (chipOf chip) kind (lentWith reply (length r)) ≡ begun.Refused f → n ≡ nextNumber (next.End (failed f)) → Leaves (slaveBegin kind b chip reply r) n b r
-    unfolding slaveBegin
-    begin-refused e f q k =
-        refused-leaves _ f n b r k (ap (λ (g : Begun). begunLeft g b r) (sym q) ∙ else b (ltb 3 chip) (refusedWith InvalidArgument b r) (begunLeft (begin (chipOf chip) kind (lentWith reply (length r))) b r) (refusedWith InvalidState b r) size e)
+      pub begin-accepted : (g : Setting) (m : Move) → went.To g m ≡ firstMove k kind z → n ≡ nextNumber (handed g (bytesBy (g .kind) reply) m .next) → HoldsWords (handed g (bytesBy (g .kind) reply) m .next) → (b′ : List ℕ)
+          → b′ ≡ bytesOf (slaveFields (stateAt g m)) → Leaves (slaveBegin kind b chip reply r) n b′ r
+      begin-accepted g m q e h b′ eb = left-leaves _ (handed g (bytesBy (g .kind) reply) m .next) n b′ (bytesOf (slaveFields (stateAt g m))) r e h eb (begun-is (went.To g m) q)
+
+      pub begin-refused : (f : Error) → went.Refused f ≡ firstMove k kind z → n ≡ nextNumber (next.End (failed f)) → Leaves (slaveBegin kind b chip reply r) n b r
+      begin-refused f q e = refused-leaves _ f n b r e (begun-is (went.Refused f) q)
 
 -- ---- what a block holds
 
@@ -82,14 +90,28 @@ module _ (entry : ℕ) (b reply r : List ℕ) (a : ℕ) (n : ℕ) where
   unfolding slaveStep
   step-nothing e k = refused-leaves _ InvalidState n b r k (ap (λ (f : SlaveFound). heldLeft f b reply r a) e)
 
-  pub step-held : (s : State) → found.At s ≡ slaveHeld entry b → (out : Stepped) → out ≡ step s (lentWith reply (length r)) a → n ≡ nextNumber (out .next) → HoldsWords (out .next) → (b′ : List ℕ)
-      → b′ ≡ bytesOf (slaveFields (out .state)) → (r′ : List ℕ) → r′ ≡ stepRead s (lentWith reply (length r)) a r → Leaves (slaveStep entry b reply r a) n b′ r′
+  pub step-held : (s : State) → found.At s ≡ slaveHeld entry b → (z : ℕ) → z ≡ sizeOf (s .kind) (lentWith reply (length r)) → (w : Went) → w ≡ nextMove s z a → n ≡ nextNumber (steppedBy s reply w .next) → HoldsWords (steppedBy s reply w .next) → (b′ : List ℕ)
+      → b′ ≡ bytesOf (slaveFields (steppedBy s reply w .state)) → (r′ : List ℕ) → r′ ≡ nextRead s z a r → Leaves (slaveStep entry b reply r a) n b′ r′
   unfolding slaveStep
-  step-held s e out eo k w b′ eb r′ er =
-      read-leaves _ (out .next) n b′ (bytesOf (slaveFields (out .state))) r′ (stepRead s (lentWith reply (length r)) a r) k w eb er
-      (ap (λ (o : Stepped). left (o .next) (bytesOf (slaveFields (o .state))) (stepRead s (lentWith reply (length r)) a r)) eo ∙ ap (λ (f : SlaveFound). heldLeft f b reply r a) e)
+  step-held s e z ez w ew k h b′ eb r′ er =
+      let l = lentWith reply (length r) in
+      let out = steppedBy s reply w in
+      read-leaves _ (out .next) n b′ (bytesOf (slaveFields (out .state))) r′ (stepRead s l a r) k h eb (er ∙ ap (λ (z : ℕ). nextRead s z a r) ez ∙ sym (call.read-went s l a r))
+      (ap (λ (o : Stepped). left (o .next) (bytesOf (slaveFields (o .state))) (stepRead s l a r)) (ap (steppedBy s reply) (ew ∙ ap (λ (z : ℕ). nextMove s z a) ez) ∙ sym (call.step-went s l a)) ∙ ap (λ (f : SlaveFound). heldLeft f b reply r a) e)
 
--- ---- the chip that C's number means
+-- ---- what is left where a call goes
 
-pub chipped : (chip : ℕ) (k : Chip) (kind : Kind) (l : SlaveLent) (g : Begun) → k ≡ chipOf chip → g ≡ begin k kind l → g ≡ begin (chipOf chip) kind l
-chipped chip k kind l g e q = q ∙ ap (λ (k : Chip). begin k kind l) e
+pub left-handed : (g : Setting) (bytes : List ℕ) (m : Move) (s : Stepped) (n : ℕ) (f : Fields) (b′ : List ℕ) → s ≡ handed g bytes m → n ≡ nextNumber (s .next) → HoldsWords (s .next) → f ≡ slaveFields (s .state) → b′ ≡ bytesOf f
+    → (n ≡ nextNumber (handed g bytes m .next)) × (HoldsWords (handed g bytes m .next) × (b′ ≡ bytesOf (slaveFields (stateAt g m))))
+left-handed g bytes m s n f b′ e k h ef eb =
+    subst (λ (o : Stepped). (n ≡ nextNumber (o .next)) × (HoldsWords (o .next) × (b′ ≡ bytesOf (slaveFields (o .state))))) e (k, (h, eb ∙ ap bytesOf ef))
+
+module _ (s : State) (reply : List ℕ) (w : Went) (n : ℕ) (b′ : List ℕ) where
+  abbrev StepLeft : Type 0
+  StepLeft = (n ≡ nextNumber (steppedBy s reply w .next)) × (HoldsWords (steppedBy s reply w .next) × (b′ ≡ bytesOf (slaveFields (steppedBy s reply w .state))))
+
+  pub left-to : (g : Setting) (m : Move) → w ≡ went.To g m → n ≡ nextNumber (handed g (bytesBy (g .kind) reply) m .next) → HoldsWords (handed g (bytesBy (g .kind) reply) m .next) → b′ ≡ bytesOf (slaveFields (stateAt g m)) → StepLeft
+  left-to g m e k h eb = rw e (k, (h, eb))
+
+  pub left-refused : (x : Error) (f : Fields) → w ≡ went.Refused x → n ≡ nextNumber (next.End (failed x)) → f ≡ slaveFields s → b′ ≡ bytesOf f → StepLeft
+  left-refused x f e k ef eb = rw e (k, (tt, eb ∙ ap bytesOf ef))

@@ -3,6 +3,9 @@ ghost use mathlib.Core.Path.{_≡_};
 ghost use lib.ListN.{length};
 ghost use Rattle.access.specs.Numbers.{nextNumber, HoldsWords};
 ghost use Rattle.block.specs.Bytes32.{bytesOf, blockSize};
+ghost use Rattle.slave.specs.Steps.{stateAt, handed};
+ghost use Rattle.slave_driver.specs.Lent.{bytesBy};
+ghost use Rattle.slave_driver.specs.Went.{steppedBy};
 ghost use Rattle.images.specs.SlaveImage.{slaveFields};
 ghost use Rattle.ch32_i2c.specs.Left.{Leaves, LeavesBlock};
 ghost use Rattle.ch32_i2c.specs.Response.{slaveBegin, slaveHeld, slaveStep, listenBegin, listenStep, respondToWriteBegin, respondToWriteStep, respondToReadBegin, respondToReadStep};
@@ -12,18 +15,22 @@ use block::bytes32;
 use images::numbers;
 use images::slave_image;
 use images::slave_image::SlaveFound;
-use slave::Begun;
 use slave::Kind;
-use slave::Stepped;
+use slave::Move;
+use slave::Setting;
+use slave::State;
 use slave_driver::call;
+use slave_driver::call::Went;
+use slave_driver::lent;
 
-// Leaves a state in the block, and hands out what it owes.
-fn leave(block: &mut [u8], stepped: Stepped) -> u64
+// Leaves in the block where a call goes, and hands out what it owes there.
+fn leave(block: &mut [u8], g: Setting, reply: &[u8], to: Move) -> u64
     requires { ⌜ length (now block) ≡ blockSize ⌝ }
-    ensures { λ r. ⌜ r ≡ nextNumber (stepped .next) ⌝ }
-    ensures { λ _. ⌜ HoldsWords (stepped .next) ⌝ }
-    ensures { λ _. ⌜ now (block .exit) ≡ bytesOf (slaveFields (stepped .state)) ⌝ }
+    ensures { λ r. ⌜ r ≡ nextNumber (handed g (bytesBy (g .kind) (now (reply .entry))) to .next) ⌝ }
+    ensures { λ _. ⌜ HoldsWords (handed g (bytesBy (g .kind) (now (reply .entry))) to .next) ⌝ }
+    ensures { λ _. ⌜ now (block .exit) ≡ bytesOf (slaveFields (stateAt g to)) ⌝ }
 {
+    let stepped = call::handed(g, reply, to);
     let state = stepped.state;
     let next = stepped.next;
     bytes32::put(block, slave_image::slave_fields(state));
@@ -39,9 +46,10 @@ fn begin(kind: Kind, block: &mut [u8], chip: u8, reply: &[u8], buffer: &mut [u8]
     if 3 < chip {
         return left::refusal(Error::InvalidArgument);
     }
-    match call::begin(numbers::chip_of(chip), kind, reply, buffer.len()) {
-        Begun::Accepted(stepped) => leave(block, stepped),
-        Begun::Refused(error) => left::refusal(error),
+    let size = lent::size_of(kind, reply, buffer.len());
+    match call::first_move(numbers::chip_of(chip), kind, size) {
+        Went::To(g, to) => leave(block, g, reply, to),
+        Went::Refused(error) => left::refusal(error),
     }
 }
 
@@ -59,13 +67,31 @@ fn held(entry: u8, block: &[u8]) -> SlaveFound
     slave_image::slave_in(fields)
 }
 
+// Leaves in the block where a step led. A refused step leaves the state as it was.
+fn leave_step(block: &mut [u8], state: State, reply: &[u8], went: Went) -> u64
+    requires { ⌜ length (now block) ≡ blockSize ⌝ }
+    ensures { λ r. ⌜ r ≡ nextNumber (steppedBy state (now (reply .entry)) went .next) ⌝ }
+    ensures { λ _. ⌜ HoldsWords (steppedBy state (now (reply .entry)) went .next) ⌝ }
+    ensures { λ _. ⌜ now (block .exit) ≡ bytesOf (slaveFields (steppedBy state (now (reply .entry)) went .state)) ⌝ }
+{
+    match went {
+        Went::To(g, to) => leave(block, g, reply, to),
+        Went::Refused(error) => {
+            bytes32::put(block, slave_image::slave_fields(state));
+            left::refusal(error)
+        }
+    }
+}
+
 fn step(entry: u8, block: &mut [u8], reply: &[u8], buffer: &mut [u8], answer: u16) -> u64
     ensures { λ r. ⌜ Leaves (slaveStep entry (now (block .entry)) (now (reply .entry)) (now (buffer .entry)) answer) r (now (block .exit)) (now (buffer .exit)) ⌝ }
 {
     match held(entry, block) {
         SlaveFound::At(state) => {
-            let stepped = call::step(state, reply, buffer, answer);
-            leave(block, stepped)
+            let kind = state.kind;
+            let size = lent::size_of(kind, reply, buffer.len());
+            let went = call::next_move(state, size, buffer, answer);
+            leave_step(block, state, reply, went)
         }
         SlaveFound::Nothing => left::refusal(Error::InvalidState),
     }

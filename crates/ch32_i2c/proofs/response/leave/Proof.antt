@@ -1,8 +1,7 @@
 -- `ch32_i2c::response::leave` meets its contract.
 -- Assumes nothing.
-use mathlib.Core.Path.{_∙_, ap, sym}
-use Rattle.block.specs.Bytes32.{bytesOf}
 use borrow.Author.Needs.{needs}
+use Rattle.ch32_i2c.proofs.SlaveLeaves.{left-handed}
 use Rattle.ch32_i2c.proofs.response.leave.Statement.{statement}
 use Rattle.ch32_i2c.proofs.response.leave.Tie as tie
 
@@ -13,5 +12,6 @@ leave-spec =
     (λ c κs. search needs)
     (λ c κs. search needs)
     (λ c κs. search needs)
+    (λ c κs. search needs)
     (λ c. search needs)
-    (λ c. (c .number .ensures .0, (c .number .ensures .1, c .before .before .before .put .ensures ∙ ap bytesOf (c .before .before .before .before .slave-fields .ensures)))))
+    (λ c. left-handed _ _ _ _ _ _ _ (c .before .before .before .before .before .before .before .handed .ensures) (c .number .ensures .0) (c .number .ensures .1) (c .before .before .before .before .slave-fields .ensures) (c .before .before .before .put .ensures)))
