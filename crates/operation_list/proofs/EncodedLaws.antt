@@ -1,13 +1,18 @@
 -- The bytes of operations, one operation after the other.
 -- Assumes nothing.
-use mathlib.Core.Path.{_≡_, refl, sym, ap, _∙_}
+use mathlib.Core.Path.{_≡_, refl, sym, ap, subst, _∙_}
+use mathlib.Core.Bool.{Bool, true, false, cond}
 use mathlib.Core.List.{List, [], _∷_, _++_, append-assoc}
 use Prim.Native.Nat.{ℕ, zero, suc, _+_, _*_, _<_, _≤_}
 use native.Mathlib.Nat.{not-suc-le-zero, le-of-suc-le-suc}
 use native.Mathlib.Numerals.{add-one, add-two, add-three}
-use lib.ListN.{length, getD, take, set}
+use native.Mathlib.Omega.{arith}
+use borrow.Author.Tests.{ltb-true, ltb-false}
+use lib.Dec.{ltb}
+use lib.ListN.{length, getD, take, set, length-take}
 use Rattle.operations.specs.declared.operation.Operation.{Operation}
-use Rattle.operation_list.specs.Encoded.{blank, bytesOf, encoded}
+use Rattle.operation_list.specs.declared.byte_list.ByteList.{ByteList}
+use Rattle.operation_list.specs.Encoded.{blank, bytesOf, encoded, countOf, cut, listOf, Encodes}
 
 -- three bytes that are set one after the other are the last three of what is taken past them
 lays : (l : List ℕ) (n a b c : ℕ) → suc (suc n) < length l → take (suc (suc (suc n))) (set (set (set l n a) (suc n) b) (suc (suc n)) c) ≡ take n l ++ (a ∷ b ∷ c ∷ [])
@@ -20,12 +25,49 @@ lays (x ∷ l) (suc n) a b c h = ap {B = List ℕ} (λ r. x ∷ r) (lays l n a b
 pub laid : (l : List ℕ) (n a b c : ℕ) → n + 2 < length l → take (n + 3) (set (set (set l n a) (n + 1) b) (n + 2) c) ≡ take n l ++ (a ∷ b ∷ c ∷ [])
 laid l n a b c h = rw (add-three, add-one, add-two) (lays l n a b c (rw add-two at h))
 
--- the bytes of one operation more
-pub encodes : (os : List Operation) (i : ℕ) → i < length os → encoded (take (i + 1) os) ≡ encoded (take i os) ++ bytesOf (getD os i blank)
+pub encodes-none : (l : ByteList) → l .length ≡ 0 → listOf l ≡ [] → Encodes l []
 unfolding encoded
-encodes os i h = rw add-one (go os i h)
+encodes-none l e b = record { size = e; bytes = b }
+
+-- the bytes of one operation more
+one-more : (os : List Operation) (i : ℕ) → i < length os → encoded (take (suc i) os) ≡ encoded (take i os) ++ bytesOf (getD os i blank)
+unfolding encoded
+one-more [] i h = absurd (not-suc-le-zero h)
+one-more (o ∷ os) zero h = refl
+one-more (o ∷ os) (suc i) h = ap (λ (r : List ℕ). bytesOf o ++ r) (one-more os i (le-of-suc-le-suc h)) ∙ sym (append-assoc (bytesOf o) (encoded (take i os)) (bytesOf (getD os i blank)))
+
+-- how many are encoded
+pub at-most : (n : ℕ) → (countOf n ≤ n) × (countOf n ≤ 257)
+at-most n = go (ltb 257 n) refl
   where
-    go : (os : List Operation) (i : ℕ) → i < length os → encoded (take (suc i) os) ≡ encoded (take i os) ++ bytesOf (getD os i blank)
-    go [] i h = absurd (not-suc-le-zero h)
-    go (o ∷ os) zero h = refl
-    go (o ∷ os) (suc i) h = ap (λ (r : List ℕ). bytesOf o ++ r) (go os i (le-of-suc-le-suc h)) ∙ sym (append-assoc (bytesOf o) (encoded (take i os)) (bytesOf (getD os i blank)))
+    go : (t : Bool) → ltb 257 n ≡ t → (cond t 257 n ≤ n) × (cond t 257 n ≤ 257)
+    go true e = let h : 257 < n = ltb-true 257 n e in (omega (arith, h), omega arith)
+    go false e = let h : n ≤ 257 = ltb-false 257 n e in (omega arith, h)
+
+-- so many of them
+pub taken : (os : List Operation) (i : ℕ) → i ≤ length os → length (take i os) ≡ i
+taken [] zero h = refl
+taken [] (suc i) h = absurd (not-suc-le-zero h)
+taken (o ∷ os) zero h = refl
+taken (o ∷ os) (suc i) h = ap suc (taken os i (le-of-suc-le-suc h))
+
+module _ (os : List Operation) (i : ℕ) (l : ByteList) (e : Encodes l (take i os)) where
+  -- there is room for one more
+  pub encodes-room : i < countOf (length os) → l .length + 3 ≤ 771
+  encodes-room h =
+      let few : (countOf (length os) ≤ length os) × (countOf (length os) ≤ 257) = at-most (length os) in
+      let size : l .length ≡ 3 * i = e .size ∙ ap (λ (n : ℕ). 3 * n) (taken os i (omega (arith, few .0, h))) in
+      omega (arith, size, h, few .1)
+
+  pub encodes-more : i < length os → (o : Operation) → o ≡ getD os i blank → (r : ByteList) → (r .length ≡ l .length + 3) × (listOf r ≡ listOf l ++ bytesOf o) → Encodes r (take (i + 1) os)
+  encodes-more h o q r k =
+      let few : length (take i os) ≡ i = taken os i (omega (arith, h)) in
+      let more : length (take (i + 1) os) ≡ i + 1 = taken os (i + 1) (omega (arith, h)) in
+      record {
+        size = omega (arith, k .0, e .size, few, more);
+        bytes = k .1 ∙ ap (λ (x : List ℕ). x ++ bytesOf o) (e .bytes) ∙ ap (λ (x : Operation). encoded (take i os) ++ bytesOf x) q ∙ sym (one-more os i h) ∙ ap (λ (n : ℕ). encoded (take n os)) (sym (add-one i));
+      }
+
+  pub encodes-cut : i ≡ countOf (length os) → Encodes l (cut os)
+  unfolding cut
+  encodes-cut q = subst (λ (n : ℕ). Encodes l (take n os)) q e

@@ -1,9 +1,10 @@
 -- Operations as the bytes that C lends, three each.
+use mathlib.Core.Path.{_≡_}
 use mathlib.Core.Bool.{cond}
 use mathlib.Core.List.{List, [], _∷_, _++_}
-use Prim.Native.Nat.{ℕ, _/_, _%_}
+use Prim.Native.Nat.{ℕ, _*_, _/_, _%_}
 use lib.Dec.{ltb}
-use lib.ListN.{take}
+use lib.ListN.{length, take}
 use Rattle.operations.specs.declared.operation.Direction.{Direction}
 use Rattle.operations.specs.declared.operation.Direction.the-variants.{Write, Read}
 use Rattle.operations.specs.declared.operation.Operation.{Operation}
@@ -25,9 +26,17 @@ encoded (o ∷ os) = bytesOf o ++ encoded os
 abbrev pub blank : Operation
 blank = record { direction = Write; length = 0 }
 
--- of more than 256 operations 257 are enough: they are refused for their number
+-- of more than 257 operations the first 257 are enough: a transaction has at most 256
 abbrev pub countOf : ℕ → ℕ
 countOf n = cond (ltb 257 n) 257 n
 
+unfoldable pub cut : List Operation → List Operation
+cut os = take (countOf (length os)) os
+
 abbrev pub listOf : ByteList → List ℕ
 listOf l = take (l .length) (l .bytes)
+
+-- the bytes of these operations, and no more
+pub record Encodes (l : ByteList) (os : List Operation) : Type 0 where
+  pub size : l .length ≡ 3 * length os
+  pub bytes : listOf l ≡ encoded os

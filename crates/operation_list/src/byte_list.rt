@@ -1,9 +1,8 @@
 // The bytes of operations, three each: of all, or of 257, one more than a transaction has.
 ghost use mathlib.Core.Path.{_≡_};
-ghost use mathlib.Core.List.{_++_};
-ghost use Prim.Native.Nat.{_+_, _*_, _<_, _≤_};
-ghost use lib.ListN.{length, take};
-ghost use Rattle.operation_list.specs.Encoded.{countOf, numberOf, bytesOf};
+ghost use mathlib.Core.List.{[], _++_};
+ghost use Prim.Native.Nat.{_+_, _≤_};
+ghost use Rattle.operation_list.specs.Encoded.{countOf, numberOf, bytesOf, listOf, Encodes};
 use operations::Direction;
 use operations::Operation;
 
@@ -19,6 +18,15 @@ pub fn count(operations: usize) -> usize
     if 257 < operations { 257 } else { operations }
 }
 
+pub fn none() -> ByteList
+    ensures { λ r. ⌜ Encodes r [] ⌝ }
+{
+    ByteList {
+        bytes: [0u8; 771],
+        length: 0,
+    }
+}
+
 fn direction_number(direction: Direction) -> u8
     ensures { λ r. ⌜ r ≡ numberOf direction ⌝ }
 {
@@ -28,15 +36,20 @@ fn direction_number(direction: Direction) -> u8
     }
 }
 
-// The bytes of an operation are laid at the place of operation i.
-pub fn put(bytes: &mut [u8; 771], i: usize, operation: Operation)
-    requires { ⌜ (i < 257) × (length (now bytes) ≡ 771) ⌝ }
-    ensures { λ _. ⌜ (length (now (bytes .exit)) ≡ 771) × (take (3 * i + 3) (now (bytes .exit)) ≡ take (3 * i) (now (bytes .entry)) ++ bytesOf operation) ⌝ }
+// One operation more.
+pub fn with(list: ByteList, operation: Operation) -> ByteList
+    requires { ⌜ list .length + 3 ≤ 771 ⌝ }
+    ensures { λ r. ⌜ (r .length ≡ list .length + 3) × (listOf r ≡ listOf list ++ bytesOf operation) ⌝ }
 {
     let direction = operation.direction;
     let length = operation.length;
-    let at = 3 * i;
+    let mut bytes = list.bytes;
+    let at = list.length;
     bytes[at] = direction_number(direction);
     bytes[at + 1] = (length % 256) as u8;
     bytes[at + 2] = (length / 256) as u8;
+    ByteList {
+        bytes,
+        length: at + 3,
+    }
 }
