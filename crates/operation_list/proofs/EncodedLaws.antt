@@ -10,9 +10,12 @@ use native.Mathlib.Omega.{arith}
 use borrow.Author.Tests.{ltb-true, ltb-false}
 use lib.Dec.{ltb}
 use lib.ListN.{length, getD, take, set, length-take}
+use Rattle.operations.specs.declared.operation.Direction.{Direction}
+use Rattle.operations.specs.declared.operation.Direction.the-variants.{Write, Read}
 use Rattle.operations.specs.declared.operation.Operation.{Operation}
+use Rattle.operations.specs.Operations.{shaped}
 use Rattle.operation_list.specs.declared.byte_list.ByteList.{ByteList}
-use Rattle.operation_list.specs.Encoded.{blank, bytesOf, encoded, countOf, cut, listOf, Encodes}
+use Rattle.operation_list.specs.Encoded.{blank, numberOf, bytesOf, encoded, countOf, cut, listOf, Encodes}
 
 -- three bytes that are set one after the other are the last three of what is taken past them
 lays : (l : List ℕ) (n a b c : ℕ) → suc (suc n) < length l → take (suc (suc (suc n))) (set (set (set l n a) (suc n) b) (suc (suc n)) c) ≡ take n l ++ (a ∷ b ∷ c ∷ [])
@@ -71,3 +74,32 @@ module _ (os : List Operation) (i : ℕ) (l : ByteList) (e : Encodes l (take i o
   pub encodes-cut : i ≡ countOf (length os) → Encodes l (cut os)
   unfolding cut
   encodes-cut q = subst (λ (n : ℕ). Encodes l (take n os)) q e
+
+-- the bytes that are encoded fit
+pub encodes-size : (os : List Operation) (l : ByteList) → Encodes l (cut os) → l .length ≤ 771
+unfolding cut
+encodes-size os l e =
+    let few : (countOf (length os) ≤ length os) × (countOf (length os) ≤ 257) = at-most (length os) in
+    let size : l .length ≡ 3 * countOf (length os) = e .size ∙ ap (λ (n : ℕ). 3 * n) (taken os (countOf (length os)) (few .0)) in
+    omega (arith, size, few .1)
+
+-- ---- what the bytes of operations are
+
+-- a direction is 0 or 1
+known : (d : Direction) (t : Bool) → cond (ltb 1 (numberOf d)) false t ≡ t
+known Write t = refl
+known Read t = refl
+
+pub encoded-shaped : (os : List Operation) → shaped (encoded os) ≡ true
+unfolding shaped encoded
+encoded-shaped [] = refl
+encoded-shaped (o ∷ os) = known (o .direction) (shaped (encoded os)) ∙ encoded-shaped os
+
+pub encoded-length : (os : List Operation) → length (encoded os) ≡ 3 * length os
+unfolding encoded
+encoded-length [] = refl
+encoded-length (o ∷ os) = let e : length (encoded os) ≡ 3 * length os = encoded-length os in omega (arith, e)
+
+pub take-all : (os : List Operation) → take (length os) os ≡ os
+take-all [] = refl
+take-all (o ∷ os) = ap {B = List Operation} (λ r. o ∷ r) (take-all os)

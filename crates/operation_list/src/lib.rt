@@ -3,7 +3,9 @@
 ghost use mathlib.Core.Path.{_≡_};
 ghost use Prim.Native.Nat.{_<_};
 ghost use lib.ListN.{length, getD};
-ghost use Rattle.operation_list.specs.Encoded.{blank, cut, Encodes};
+ghost use Rattle.ch32_i2c.specs.Left.{Leaves};
+ghost use Rattle.ch32_i2c.specs.Transfer.{transactionBegin, transactionStep};
+ghost use Rattle.operation_list.specs.Encoded.{blank, encoded, cut, Encodes};
 use byte_list::ByteList;
 use operations::Operation;
 
@@ -29,4 +31,29 @@ fn encode(operations: &[Operation]) -> ByteList
         i += 1;
     }
     list
+}
+
+pub fn begin(
+    block: &mut [u8],
+    chip: u8,
+    address: u8,
+    operations: &[Operation],
+    written: &[u8],
+    read: &mut [u8],
+) -> u64
+    ensures { λ r. ⌜ Leaves (transactionBegin (now (block .entry)) chip address (encoded (now (operations .entry))) (now (written .entry)) (now (read .entry))) r (now (block .exit)) (now (read .exit)) ⌝ }
+{
+    byte_list::begin(block, chip, address, encode(operations), written, read)
+}
+
+pub fn step(
+    block: &mut [u8],
+    operations: &[Operation],
+    written: &[u8],
+    read: &mut [u8],
+    answer: u16,
+) -> u64
+    ensures { λ r. ⌜ Leaves (transactionStep (now (block .entry)) (encoded (now (operations .entry))) (now (written .entry)) (now (read .entry)) answer) r (now (block .exit)) (now (read .exit)) ⌝ }
+{
+    byte_list::step(block, encode(operations), written, read, answer)
 }
