@@ -15,7 +15,7 @@ use Rattle.operations.specs.declared.operation.Direction.the-variants.{Write, R
 use Rattle.operations.specs.declared.operation.Operation.{Operation}
 use Rattle.operations.specs.Operations.{shaped}
 use Rattle.operation_list.specs.declared.byte_list.ByteList.{ByteList}
-use Rattle.operation_list.specs.Encoded.{blank, numberOf, bytesOf, encoded, countOf, cut, listOf, Encodes}
+use Rattle.operation_list.specs.Encoded.{blank, numberOf, bytesOf, encoded, countOf, first257, listOf, Encodes}
 
 -- three bytes that are set one after the other are the last three of what is taken past them
 lays : (l : List ℕ) (n a b c : ℕ) → suc (suc n) < length l → take (suc (suc (suc n))) (set (set (set l n a) (suc n) b) (suc (suc n)) c) ≡ take n l ++ (a ∷ b ∷ c ∷ [])
@@ -71,13 +71,13 @@ module _ (os : List Operation) (i : ℕ) (l : ByteList) (e : Encodes l (take i o
         bytes = k .1 ∙ ap (λ (x : List ℕ). x ++ bytesOf o) (e .bytes) ∙ ap (λ (x : Operation). encoded (take i os) ++ bytesOf x) q ∙ sym (one-more os i h) ∙ ap (λ (n : ℕ). encoded (take n os)) (sym (add-one i));
       }
 
-  pub encodes-cut : i ≡ countOf (length os) → Encodes l (cut os)
-  unfolding cut
-  encodes-cut q = subst (λ (n : ℕ). Encodes l (take n os)) q e
+  pub encodes-first : i ≡ countOf (length os) → Encodes l (first257 os)
+  unfolding first257
+  encodes-first q = subst (λ (n : ℕ). Encodes l (take n os)) q e
 
 -- the bytes that are encoded fit
-pub encodes-size : (os : List Operation) (l : ByteList) → Encodes l (cut os) → l .length ≤ 771
-unfolding cut
+pub encodes-size : (os : List Operation) (l : ByteList) → Encodes l (first257 os) → l .length ≤ 771
+unfolding first257
 encodes-size os l e =
     let few : (countOf (length os) ≤ length os) × (countOf (length os) ≤ 257) = at-most (length os) in
     let size : l .length ≡ 3 * countOf (length os) = e .size ∙ ap (λ (n : ℕ). 3 * n) (taken os (countOf (length os)) (few .0)) in

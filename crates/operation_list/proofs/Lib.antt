@@ -1,2 +1,4 @@
 pub mod EncodedLaws
 pub mod ManyLaws
+pub mod SliceLaws
+pub mod Examples

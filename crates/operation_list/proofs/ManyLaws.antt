@@ -31,7 +31,7 @@ use Rattle.images.specs.declared.master_image.MasterFound.the-variants.{At, Not
 use Rattle.images.specs.Numbers.{transactionEntry}
 use Rattle.ch32_i2c.specs.Left.{Left, refusedWith}
 use Rattle.ch32_i2c.specs.Transfer.{callOf, begunLeft, masterBegin, masterHeld, heldLeft, masterStep, transactionBegin, transactionStep}
-use Rattle.operation_list.specs.Encoded.{encoded, countOf, cut}
+use Rattle.operation_list.specs.Encoded.{encoded, countOf, first257}
 use Rattle.operation_list.proofs.EncodedLaws.{encoded-shaped, encoded-length, taken, take-all}
 
 abbrev stateOf : Chip → ℕ → Kind → Stage → Progress → State
@@ -98,9 +98,9 @@ module _ {A : Type 0} (f : List ℕ → A) (alike : (l m : List ℕ) → Many l 
   many-encoded : (os : List Operation) → 257 ≤ length os → Many (encoded os)
   many-encoded os h = let e : length (encoded os) ≡ 3 * length os = encoded-length os in record { shape = encoded-shaped os; many = lt-ltb 768 (length (encoded os)) (omega (arith, e, h)) }
 
-  cut-alike : f (encoded (cut os)) ≡ f (encoded os)
-  unfolding cut
-  cut-alike = go (ltb 257 (length os)) refl
+  first-alike : f (encoded (first257 os)) ≡ f (encoded os)
+  unfolding first257
+  first-alike = go (ltb 257 (length os)) refl
     where
       go : (t : Bool) → ltb 257 (length os) ≡ t → f (encoded (take (cond t 257 (length os)) os)) ≡ f (encoded os)
       go true e =
@@ -110,9 +110,9 @@ module _ {A : Type 0} (f : List ℕ → A) (alike : (l m : List ℕ) → Many l 
       go false e = ap (λ (x : List Operation). f (encoded x)) (take-all os)
 
 module _ (block : List ℕ) (os : List Operation) (written read : List ℕ) where
-  pub begin-cut : (chip address : ℕ) → transactionBegin block chip address (encoded (cut os)) written read ≡ transactionBegin block chip address (encoded os) written read
-  begin-cut chip address = cut-alike (λ (l : List ℕ). transactionBegin block chip address l written read) (λ l m hl hm. begin-many l m hl hm (ltb 3 chip) chip address block written read) os
+  pub begin-first : (chip address : ℕ) → transactionBegin block chip address (encoded (first257 os)) written read ≡ transactionBegin block chip address (encoded os) written read
+  begin-first chip address = first-alike (λ (l : List ℕ). transactionBegin block chip address l written read) (λ l m hl hm. begin-many l m hl hm (ltb 3 chip) chip address block written read) os
 
-  pub step-cut : (a : ℕ) → transactionStep block (encoded (cut os)) written read a ≡ transactionStep block (encoded os) written read a
+  pub step-first : (a : ℕ) → transactionStep block (encoded (first257 os)) written read a ≡ transactionStep block (encoded os) written read a
   unfolding masterStep
-  step-cut a = cut-alike (λ (l : List ℕ). transactionStep block l written read a) (λ l m hl hm. held-many l m hl hm (masterHeld transactionEntry block) block written read a) os
+  step-first a = first-alike (λ (l : List ℕ). transactionStep block l written read a) (λ l m hl hm. held-many l m hl hm (masterHeld transactionEntry block) block written read a) os

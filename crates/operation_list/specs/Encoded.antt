@@ -30,8 +30,8 @@ blank = record { direction = Write; length = 0 }
 abbrev pub countOf : ℕ → ℕ
 countOf n = cond (ltb 257 n) 257 n
 
-unfoldable pub cut : List Operation → List Operation
-cut os = take (countOf (length os)) os
+unfoldable pub first257 : List Operation → List Operation
+first257 os = take (countOf (length os)) os
 
 abbrev pub listOf : ByteList → List ℕ
 listOf l = take (l .length) (l .bytes)

@@ -5,7 +5,7 @@ ghost use Prim.Native.Nat.{_<_};
 ghost use lib.ListN.{length, getD};
 ghost use Rattle.ch32_i2c.specs.Left.{Leaves};
 ghost use Rattle.ch32_i2c.specs.Transfer.{transactionBegin, transactionStep};
-ghost use Rattle.operation_list.specs.Encoded.{blank, encoded, cut, Encodes};
+ghost use Rattle.operation_list.specs.Encoded.{blank, encoded, first257, Encodes};
 use byte_list::ByteList;
 use operations::Operation;
 
@@ -20,7 +20,7 @@ fn operation_at(operations: &[Operation], i: usize) -> Operation
 
 // The bytes of the operations, or of the first 257.
 fn encode(operations: &[Operation]) -> ByteList
-    ensures { λ r. ⌜ Encodes r (cut (now (operations .entry))) ⌝ }
+    ensures { λ r. ⌜ Encodes r (first257 (now (operations .entry))) ⌝ }
 {
     let count = byte_list::count(operations.len());
     let mut list = byte_list::none();

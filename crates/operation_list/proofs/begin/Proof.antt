@@ -43,9 +43,9 @@ use Rattle.operations.proofs.operation.Operation as O
 use Rattle.ch32_i2c.specs.Left.{Left, Leaves}
 use Rattle.ch32_i2c.specs.Transfer.{transactionBegin}
 use Rattle.operation_list.specs.declared.byte_list.ByteList.{ByteList}
-use Rattle.operation_list.specs.Encoded.{encoded, cut, listOf, Encodes}
+use Rattle.operation_list.specs.Encoded.{encoded, first257, listOf, Encodes}
 use Rattle.operation_list.proofs.EncodedLaws.{encodes-size}
-use Rattle.operation_list.proofs.ManyLaws.{begin-cut}
+use Rattle.operation_list.proofs.ManyLaws.{begin-first}
 use Rattle.operation_list.proofs.byte_list.ByteList as L
 use Rattle.operation_list.proofs.byte_list.ByteList.Laws as L′
 use Rattle.operation_list.proofs.encode as encode
@@ -145,9 +145,9 @@ module _ {M : Type 1} (𝓤 : URA M) (H : Heap 𝓤) (A : Atoms 𝓤) (W : Given
       owned ! u8 (Is u8) (uint-makes 𝓤 H A W w8) address _ (refl, address-fits) $ fjoin ! $ owned ! u8 (Is u8) (uint-makes 𝓤 H A W w8) chip _ (refl, chip-fits) $ fjoin ! $ move ! (1 ∷ 0 ∷ []) $ fjoin ! $ done !
 
   -- the list that is handed on says as much as all
-  all-said : (l : ByteList) → Encodes l (cut (now operations)) → (r : ℕ) (b e : List ℕ) → Said (listOf l) r b e → Said (encoded (now operations)) r b e
+  all-said : (l : ByteList) → Encodes l (first257 (now operations)) → (r : ℕ) (b e : List ℕ) → Said (listOf l) r b e → Said (encoded (now operations)) r b e
   all-said l k r b e said =
-      subst (λ (h : Left). Leaves h r b e) (ap (λ (list : List ℕ). transactionBegin (now block) chip address list (now written) (now read)) (k .bytes) ∙ begin-cut (now block) (now operations) (now written) (now read) chip address) said
+      subst (λ (h : Left). Leaves h r b e) (ap (λ (list : List ℕ). transactionBegin (now block) chip address list (now written) (now read)) (k .bytes) ∙ begin-first (now block) (now operations) (now written) (now read) chip address) said
 
   module _ (C : Calls 𝓤 H) (Λ : Loops 𝓤 H) (fm : FmC 𝓤 H (W .laws) C) (encode-known : Triple 𝓤 (C #encode) (Encode 𝓤 H A mem run)) (callee-known : Triple 𝓤 (C #callee) (Callee 𝓤 H A mem run)) where
     walk : Room u8 (length (now block)) → Room R (length (now operations)) → Room u8 (length (now written)) → Room u8 (length (now read))
@@ -168,7 +168,7 @@ module _ {M : Type 1} (𝓤 : URA M) (H : Heap 𝓤) (A : Atoms 𝓤) (W : Given
         use2 W (raw (Encode 𝓤 H A mem run .pre to-encode)) asks-encode $
         calls-at ! fm (Encode 𝓤 H A mem run) encode-known to-encode (and-then ! (load ! (from ! (stop !)) (look ! 22 refl)) (no-more !)) (λ w.
         use1 W (later (some (λ (l : ByteList). ((‵ (flft κ₁ q₁) ⊛ ‵ ftrue) ⊛ ‵ (L.the-row .own l (w ∷ []))) ⊛ raw (ensured 𝓤 H A encode.ended (encode.clauses 𝓤 H A mem run) (κ₁, tt) (operations, tt) tt l)))) (id⊢ 𝓤 _) $ await ! tt $ pick ! (λ l.
-        split ! $ move ! (1 ∷ []) $ use1 W (raw (fact 𝓤 (Encodes l (cut (now operations))))) (exE 𝓤 _ (λ ws. snd∗ 𝓤 (sem 𝓤 H A (lasts encode.ended (κ₁, tt) (operations, tt) ws)) (fact 𝓤 (Encodes l (cut (now operations)))))) $ heard ! (Encodes l (cut (now operations))) (λ k.
+        split ! $ move ! (1 ∷ []) $ use1 W (raw (fact 𝓤 (Encodes l (first257 (now operations))))) (exE 𝓤 _ (λ ws. snd∗ 𝓤 (sem 𝓤 H A (lasts encode.ended (κ₁, tt) (operations, tt) ws)) (fact 𝓤 (Encodes l (first257 (now operations)))))) $ heard ! (Encodes l (first257 (now operations))) (λ k.
         split ! $ move ! (1 ∷ []) $ facts ! L.the-row (Is L.the-row) (shows 𝓤 H A L.the-row) l (w ∷ []) (λ is.
         -- [the token of operations; what they own; the tokens of read, written and block; what read, written and block own; _11; …]
         land ! (from ! (stop !)) (init ! 12 refl (LL.lawful L.the-type L′.the-laws 𝓤 H A W .typed l _ is .0)) $

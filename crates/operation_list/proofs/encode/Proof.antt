@@ -48,8 +48,8 @@ use Rattle.operations.specs.declared.operation.Operation.{Operation}
 use Rattle.operations.proofs.operation.Operation as O
 use Rattle.operations.proofs.operation.Operation.Laws as O′
 use Rattle.operation_list.specs.declared.byte_list.ByteList.{ByteList}
-use Rattle.operation_list.specs.Encoded.{blank, bytesOf, countOf, cut, listOf, Encodes}
-use Rattle.operation_list.proofs.EncodedLaws.{at-most, encodes-room, encodes-more, encodes-cut}
+use Rattle.operation_list.specs.Encoded.{blank, bytesOf, countOf, first257, listOf, Encodes}
+use Rattle.operation_list.proofs.EncodedLaws.{at-most, encodes-room, encodes-more, encodes-first}
 use Rattle.operation_list.proofs.byte_list.ByteList as L
 use Rattle.operation_list.proofs.byte_list.ByteList.Laws as L′
 use Rattle.operation_list.proofs.byte_list.count as count
@@ -137,7 +137,7 @@ module _ {M : Type 1} (𝓤 : URA M) (H : Heap 𝓤) (A : Atoms 𝓤) (W : Given
   asks-none : ent 𝓤 (emp 𝓤) (None 𝓤 H A mem run .pre to-none)
   asks-none = qed W [] ∵ nothing ! $ nothing ! $ join ! $ frame ! $ done !
 
-  exits : (r : ByteList) (u : Val) → Is L.the-row r (u ∷ []) → Encodes r (cut ys) → ent 𝓤 (⋆ 𝓤 H A (‵ (flft κ q) ∷ ‵ Own ∷ [])) (Post u)
+  exits : (r : ByteList) (u : Val) → Is L.the-row r (u ∷ []) → Encodes r (first257 ys) → ent 𝓤 (⋆ 𝓤 H A (‵ (flft κ q) ∷ ‵ Own ∷ [])) (Post u)
   exits r u is e =
       qed W (‵ (flft κ q) ∷ ‵ Own ∷ []) ∵
       suffices ! _ (ends-at 𝓤 H A f.ended stayed (f.clauses 𝓤 H A mem run) W (((κ, tt), (q, tt), tt, (x, tt), (v ∷ [], tt)), tt) u r (tt, tt) (tt, tt)) $ says ! e $
@@ -220,11 +220,11 @@ module _ {M : Type 1} (𝓤 : URA M) (H : Heap 𝓤) (A : Atoms 𝓤) (W : Given
         one-on = let h : t .i < c = below in omega (arith, h)
 
       -- all are encoded
-      ended : (t : Turn c) → T (not (ltb (t .i) c)) → Encodes (t .list) (cut ys)
+      ended : (t : Turn c) → T (not (ltb (t .i) c)) → Encodes (t .list) (first257 ys)
       ended t over =
           let few : t .i ≤ c = t .most in
           let over′ : c ≤ t .i = nltb→le (t .i) c over in
-          encodes-cut ys (t .i) (t .list) (t .encodes) (omega (arith, few, over′, ec))
+          encodes-first ys (t .i) (t .list) (t .encodes) (omega (arith, few, over′, ec))
 
       turns : (t : Turn c) → Sq W (At t) (runs (𝓣 .C) (𝓣 .Λ) En parts.turn-1 (anyQ (Turned t)))
       unfolding afterTurn
