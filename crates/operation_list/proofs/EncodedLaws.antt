@@ -9,7 +9,7 @@ use native.Mathlib.Numerals.{add-one, add-two, add-three}
 use native.Mathlib.Omega.{arith}
 use borrow.Author.Tests.{ltb-true, ltb-false}
 use lib.Dec.{ltb}
-use lib.ListN.{length, getD, take, set, length-take}
+use lib.ListN.{length, getD, take, set}
 use Rattle.operations.specs.declared.operation.Direction.{Direction}
 use Rattle.operations.specs.declared.operation.Direction.the-variants.{Write, Read}
 use Rattle.operations.specs.declared.operation.Operation.{Operation}

@@ -3,7 +3,6 @@
 use mathlib.Core.Path.{_≡_, refl}
 use mathlib.Core.List.{List, [], _∷_}
 use mathlib.Core.Option.{some}
-use Prim.Native.Nat.{ℕ}
 use lib.ListN.{replicate}
 use Rattle.access.specs.declared.ending.Error.the-variants.{InvalidAddress, TooManyOperations}
 use Rattle.operations.specs.declared.operation.Direction.the-variants.{Write, Read}

@@ -1,17 +1,17 @@
 -- More than 256 operations are refused for their number, whatever they are: the first 257 say as much as all.
 -- Assumes nothing.
-use mathlib.Core.Path.{_≡_, refl, sym, ap, subst, _∙_}
-use mathlib.Core.Bool.{Bool, true, false, cond, not, _&&_}
-use mathlib.Core.List.{List, [], _∷_}
-use mathlib.Core.Option.{Option, none, some}
+use mathlib.Core.Path.{_≡_, refl, ap, _∙_}
+use mathlib.Core.Bool.{Bool, true, false, cond, not}
+use mathlib.Core.List.{List}
+use mathlib.Core.Option.{Option, some}
 use Prim.Native.Nat.{ℕ, _*_, _≤_, _<_}
 use native.Mathlib.Omega.{arith}
 use borrow.Author.Tests.{ltb-true, lt-ltb}
-use lib.Dec.{eqb, ltb}
+use lib.Dec.{ltb}
 use lib.ListN.{length, take}
 use Rattle.registers.specs.declared.chip.Chip.{Chip}
 use Rattle.access.specs.declared.ending.Error.{Error}
-use Rattle.access.specs.declared.ending.Error.the-variants.{InvalidAddress, TooManyOperations, InvalidArgument}
+use Rattle.access.specs.declared.ending.Error.the-variants.{InvalidAddress, TooManyOperations}
 use Rattle.operations.specs.declared.operation.Operation.{Operation}
 use Rattle.operations.specs.Operations.{shaped}
 use Rattle.master.specs.declared.call.Call.{Call}
@@ -20,18 +20,14 @@ use Rattle.master.specs.declared.call.Kind.the-variants as kind
 use Rattle.master.specs.declared.stage.Stage.{Stage}
 use Rattle.master.specs.declared.state.Progress.{Progress}
 use Rattle.master.specs.declared.state.State.{State}
-use Rattle.master.specs.declared.state.Stepped.{Stepped}
-use Rattle.master.specs.declared.state.Begun.{Begun}
 use Rattle.master.specs.declared.state.Begun.the-variants.{Refused}
-use Rattle.master.specs.Calls.{lentWith, refuse, refusalBy, refusal, shapeBy}
-use Rattle.master.specs.Fits.{fits}
-use Rattle.master.specs.Steps.{begin, begunWith, fitsLent, isNone, moveOf, needOf, step, stepRead, refused, moved}
+use Rattle.master.specs.Calls.{lentWith, refuse, refusalBy, refusal}
+use Rattle.master.specs.Steps.{begin, begunWith, fitsLent, step, stepRead, refused}
 use Rattle.images.specs.declared.master_image.MasterFound.{MasterFound}
 use Rattle.images.specs.declared.master_image.MasterFound.the-variants.{At, Nothing}
 use Rattle.images.specs.Numbers.{transactionEntry}
-use Rattle.ch32_i2c.specs.Left.{Left, refusedWith}
-use Rattle.ch32_i2c.specs.Transfer.{callOf, begunLeft, masterBegin, masterHeld, heldLeft, masterStep, transactionBegin, transactionStep}
-use Rattle.operation_list.specs.Encoded.{encoded, countOf, first257}
+use Rattle.ch32_i2c.specs.Transfer.{callOf, masterBegin, masterHeld, heldLeft, masterStep, transactionBegin, transactionStep}
+use Rattle.operation_list.specs.Encoded.{encoded, first257}
 use Rattle.operation_list.proofs.EncodedLaws.{encoded-shaped, encoded-length, taken, take-all}
 
 abbrev stateOf : Chip → ℕ → Kind → Stage → Progress → State

@@ -1,9 +1,8 @@
 -- A transaction whose operations are lent as a slice is C's transaction with their bytes.
 -- Assumes nothing.
-use mathlib.Core.Path.{_≡_, refl, sym, ap, subst, _∙_}
-use mathlib.Core.Bool.{Bool, true, false, cond, not, _||_}
+use mathlib.Core.Path.{_≡_, refl, ap, subst}
+use mathlib.Core.Bool.{Bool, true, false}
 use mathlib.Core.List.{List, [], _∷_}
-use mathlib.Core.Option.{Option, none, some}
 use Prim.Native.Nat.{ℕ, _+_, _*_, _/_, _%_, _≤_, _<_}
 use native.Mathlib.Omega.{arith}
 use borrow.Author.Tests.{ltb-true, ltb-false, lt-ltb, le-ltb}
@@ -13,14 +12,12 @@ use Rattle.access.specs.Record.{Shown}
 use Rattle.operations.specs.declared.operation.Direction.{Direction}
 use Rattle.operations.specs.declared.operation.Direction.the-variants.{Write, Read}
 use Rattle.operations.specs.declared.operation.Operation.{Operation}
-use Rattle.operations.specs.Operations.{directionOf, operationOf, operationsOf, shaped}
-use Rattle.master.specs.declared.call.Kind.the-variants as kind
-use Rattle.master.specs.Calls.{lentWith, refusal, rustWith}
+use Rattle.operations.specs.Operations.{directionOf, operationOf, operationsOf}
+use Rattle.master.specs.Calls.{refusal, rustWith}
 use Rattle.ch32_i2c.specs.Fed.{Makes}
-use Rattle.ch32_i2c.specs.Transfer.{callOf}
-use Rattle.ch32_i2c.specs.Demands.{Call, entryOf, ownRefusal, Accepted, rust}
+use Rattle.ch32_i2c.specs.Demands.{entryOf, ownRefusal, rust}
 use Rattle.ch32_i2c.proofs.Demands.{demand-2}
-use Rattle.operation_list.specs.Encoded.{numberOf, bytesOf, encoded}
+use Rattle.operation_list.specs.Encoded.{numberOf, encoded}
 use Rattle.operation_list.specs.Claims.{sliceCall, sliceRefusal, rustOf, SliceIsTheList}
 use Rattle.operation_list.proofs.EncodedLaws.{encoded-shaped, encoded-length}
 

@@ -1,7 +1,7 @@
--- `operation_list::operation_at` meets its contract: a walk of its MIR, by hand. The place of `operations[i]` is i * 4 past the slice's pointer, the slice is looked into, element i is taken out of the row,
+-- `operation_list::slice::operation_at` meets its contract: a walk of its MIR, by hand. The place of `operations[i]` is i * 4 past the slice's pointer, the slice is looked into, element i is taken out of the row,
 -- copied, and put back, and the token comes back. The code has no check of the bound: it is the contract's to ask.
 -- Assumes nothing.
-use mathlib.Core.Path.{_≡_, refl, sym}
+use mathlib.Core.Path.{refl, sym}
 use Prim.Native.Nat.{ℕ, _*_, _<_, _^_}
 use native.Mathlib.Omega.{arith}
 use mathlib.Core.List.{List, [], _∷_}
@@ -41,10 +41,10 @@ use Rattle.operation_list.specs.Encoded.{blank}
 use Rattle.operations.specs.declared.operation.Operation.{Operation}
 use Rattle.operations.proofs.operation.Operation as T
 use Rattle.operations.proofs.operation.Operation.Laws as T′
-use Rattle.operation_list.proofs.operation_at.Key.{name as #operation-list·operation-at}
-use Rattle.operation_list.proofs.operation_at as f
-use Rattle.operation_list.proofs.operation_at.Statement as stated
-use Rattle.operation_list.proofs.operation_at.Code as code
+use Rattle.operation_list.proofs.slice.operation_at.Key.{name as #operation-list·operation-at}
+use Rattle.operation_list.proofs.slice.operation_at as f
+use Rattle.operation_list.proofs.slice.operation_at.Statement as stated
+use Rattle.operation_list.proofs.slice.operation_at.Code as code
 
 abbrev R : RattleType
 R = T.the-row
@@ -89,7 +89,7 @@ module _ {M : Type 1} (𝓤 : URA M) (H : Heap 𝓤) (A : Atoms 𝓤) (W : Given
         rewrite ! 2 (λ (p : ℕ). ‵ (fat fullShare tyPtr l₄ 0 (vptr b p))) (sym (place-is 4 o i)) refl $
         move ! (13 ∷ []) $ fsplit ! $ fsplit ! $ move ! (1 ∷ []) $ fsplit ! $ move ! (16 ∷ []) $ split ! $ move ! (3 ∷ 0 ∷ []) $
         looks-slice ! tt R (Is R) (shows 𝓤 H A R) vals (LL.tells T.the-type T′.the-laws) (LL.copy T.the-type T′.the-copy 𝓤 H A W) ys b o (λ q′. elem-out ! R (Is R) (shows 𝓤 H A R) vals (LL.tells T.the-type T′.the-laws) q′ ys i blank b o l (λ g.
-        -- [ops[i]; what it owns; the others; what shuts; the fractured borrow; true; res; ops's fact; i's; _5; …; _4; …; _3; …; _2; …; _1; …; _0; …]
+        -- [operations[i]; what it owns; the others; what shuts; the fractured borrow; true; res; the slice's fact; i's; _5; …; _4; …; _3; …; _2; …; _1; …; _0; …]
         assigns ! (of-opd ! (load ! (from ! (hop ! (look ! 11 refl) (stop !))) (look-raw ! 0 refl))) (from ! (stop !)) (init ! 9 refl (LL.lawful T.the-type T′.the-laws 𝓤 H A W .typed elem (mach ∷ []) g .0)) $
         assigns ! (of-opd ! (load ! (from ! (stop !)) (look ! 9 refl))) (from ! (stop !)) (init ! 19 refl (LL.lawful T.the-type T′.the-laws 𝓤 H A W .typed elem (mach ∷ []) g .0)) $
         elem-back ! R q′ ys i blank (mach ∷ []) b o l $ shuts-slice ! tt R q′ ys b o $
