@@ -5,4 +5,4 @@ use Rattle.operation_list.proofs.byte_list.count.Statement.{statement}
 use Rattle.operation_list.proofs.byte_list.count.Tie as tie
 
 pub count-spec : {M : Type 1} → statement M
-count-spec = tie.close (tie.spec (λ c. rw (lt-ltb _ _ (c .if1 .taken))) (λ c. rw (le-ltb _ _ (c .if1 .left))))
+count-spec = tie.close (tie.spec (λ c. rw (lt-ltb 257 _ (c .if1 .taken))) (λ c. rw (le-ltb 257 _ (c .if1 .left))))
