@@ -6,6 +6,7 @@ ghost use Rattle.operation_list.specs.Encoded.{countOf, numberOf, bytesO
 use operations::Direction;
 use operations::Operation;
 
+// The list is the first `length` bytes.
 pub struct ByteList {
     pub bytes: [u8; 771],
     pub length: usize,

@@ -1,4 +1,4 @@
-// Begin and step of a transaction whose bytes are in an array.
+// Begin and step of a transaction whose operations are bytes in an array.
 ghost use Prim.Native.Nat.{_≤_};
 ghost use Rattle.ch32_i2c.specs.Left.{Leaves};
 ghost use Rattle.ch32_i2c.specs.Transfer.{transactionBegin, transactionStep};
