@@ -12,7 +12,7 @@ use Rattle.operations.specs.Runs.{runsOf, runsFrom}
 use Rattle.operations.specs.Search.{faultFrom}
 use Rattle.master.specs.Calls.{refusal}
 use Rattle.ch32_i2c.specs.Demands.{Accepted, refusalOf}
-use Rattle.operation_list.specs.Encoded.{encoded}
+use Rattle.operation_bytes.specs.Encoded.{encoded}
 use Rattle.operation_list.specs.Claims.{sliceCall}
 
 -- two writes, of one byte and of none, and a read of 300

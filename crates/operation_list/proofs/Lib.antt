@@ -1,4 +1,3 @@
-pub mod EncodedLaws
 pub mod ManyLaws
 pub mod SliceLaws
 pub mod Examples

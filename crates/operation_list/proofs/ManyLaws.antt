@@ -27,8 +27,8 @@ use Rattle.images.specs.declared.master_image.MasterFound.{MasterFound}
 use Rattle.images.specs.declared.master_image.MasterFound.the-variants.{At, Nothing}
 use Rattle.images.specs.Numbers.{transactionEntry}
 use Rattle.ch32_i2c.specs.Transfer.{callOf, masterBegin, masterHeld, heldLeft, masterStep, transactionBegin, transactionStep}
-use Rattle.operation_list.specs.Encoded.{encoded, first257}
-use Rattle.operation_list.proofs.EncodedLaws.{encoded-shaped, encoded-length, taken, take-all}
+use Rattle.operation_bytes.specs.Encoded.{encoded, first257}
+use Rattle.operation_bytes.proofs.EncodedLaws.{encoded-shaped, encoded-length, taken, take-all}
 
 abbrev stateOf : Chip → ℕ → Kind → Stage → Progress → State
 stateOf chip address x stage progress = record { call = record { chip = chip; address = address; kind = x }; stage = stage; progress = progress }

@@ -17,9 +17,9 @@ use Rattle.master.specs.Calls.{refusal, rustWith}
 use Rattle.ch32_i2c.specs.Fed.{Makes}
 use Rattle.ch32_i2c.specs.Demands.{entryOf, ownRefusal, rust}
 use Rattle.ch32_i2c.proofs.Demands.{demand-2}
-use Rattle.operation_list.specs.Encoded.{numberOf, encoded}
+use Rattle.operation_bytes.specs.Encoded.{numberOf, encoded}
 use Rattle.operation_list.specs.Claims.{sliceCall, sliceRefusal, rustOf, SliceIsTheList}
-use Rattle.operation_list.proofs.EncodedLaws.{encoded-shaped, encoded-length}
+use Rattle.operation_bytes.proofs.EncodedLaws.{encoded-shaped, encoded-length}
 
 -- ---- the bytes spell the operations
 

@@ -22,7 +22,7 @@ use Rattle.images.specs.Numbers.{chipOf}
 use Rattle.ch32_i2c.specs.Fed.{Makes}
 use Rattle.ch32_i2c.specs.Transfer.{transactionBegin, transactionStep}
 use Rattle.ch32_i2c.specs.Demands.{Call, transaction, entryOf, ownRefusal, Accepted}
-use Rattle.operation_list.specs.Encoded.{encoded}
+use Rattle.operation_bytes.specs.Encoded.{encoded}
 
 -- the call of C that it is
 abbrev pub sliceCall : ℕ → ℕ → List Operation → List ℕ → Call

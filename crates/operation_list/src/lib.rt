@@ -1,6 +1,3 @@
-// A transaction whose operations are lent as a slice of structs, and not as bytes. The functions over the slice are few, each
-// proved by hand.
-mod byte_list;
+// A transaction whose operations are lent as a slice of structs, and not as bytes.
 mod listed;
-mod slice;
 pub mod transaction;

@@ -2,9 +2,9 @@
 ghost use Prim.Native.Nat.{_≤_};
 ghost use Rattle.ch32_i2c.specs.Left.{Leaves};
 ghost use Rattle.ch32_i2c.specs.Transfer.{transactionBegin, transactionStep};
-ghost use Rattle.operation_list.specs.Encoded.{listOf};
-use crate::byte_list::ByteList;
+ghost use Rattle.operation_bytes.specs.Encoded.{listOf};
 use ch32_i2c::transfer;
+use operation_bytes::ByteList;
 
 pub fn begin(
     block: &mut [u8],

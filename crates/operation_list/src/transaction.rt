@@ -1,9 +1,9 @@
 // Begin and step of a transaction: what those of C give for the bytes of the operations.
 ghost use Rattle.ch32_i2c.specs.Left.{Leaves};
 ghost use Rattle.ch32_i2c.specs.Transfer.{transactionBegin, transactionStep};
-ghost use Rattle.operation_list.specs.Encoded.{encoded};
+ghost use Rattle.operation_bytes.specs.Encoded.{encoded};
 use crate::listed;
-use crate::slice;
+use operation_bytes::slice;
 use operations::Operation;
 
 pub fn begin(

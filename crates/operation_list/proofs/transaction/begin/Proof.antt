@@ -41,16 +41,16 @@ use Rattle.operations.specs.declared.operation.Operation.{Operation}
 use Rattle.operations.proofs.operation.Operation as O
 use Rattle.ch32_i2c.specs.Left.{Left, Leaves}
 use Rattle.ch32_i2c.specs.Transfer.{transactionBegin}
-use Rattle.operation_list.specs.declared.byte_list.ByteList.{ByteList}
-use Rattle.operation_list.specs.Encoded.{encoded, first257, listOf, Encodes}
-use Rattle.operation_list.proofs.EncodedLaws.{encodes-size}
+use Rattle.operation_bytes.specs.declared.byte_list.ByteList.{ByteList}
+use Rattle.operation_bytes.specs.Encoded.{encoded, first257, listOf, Encodes}
+use Rattle.operation_bytes.proofs.EncodedLaws.{encodes-size}
 use Rattle.operation_list.proofs.ManyLaws.{begin-first}
-use Rattle.operation_list.proofs.byte_list.ByteList as L
-use Rattle.operation_list.proofs.byte_list.ByteList.Laws as L′
-use Rattle.operation_list.proofs.slice.encode as encode
-use Rattle.operation_list.proofs.slice.encode.Symbol as encode-def
-use Rattle.operation_list.proofs.slice.encode.Symbol.{name as #encode}
-use Rattle.operation_list.proofs.slice.encode.Met as encode-thm
+use Rattle.operation_bytes.proofs.byte_list.ByteList as L
+use Rattle.operation_bytes.proofs.byte_list.ByteList.Laws as L′
+use Rattle.operation_bytes.proofs.slice.encode as encode
+use Rattle.operation_bytes.proofs.slice.encode.Symbol as encode-def
+use Rattle.operation_bytes.proofs.slice.encode.Symbol.{name as #encode}
+use Rattle.operation_bytes.proofs.slice.encode.Met as encode-thm
 use Rattle.operation_list.proofs.listed.begin as callee
 use Rattle.operation_list.proofs.listed.begin.Symbol as callee-def
 use Rattle.operation_list.proofs.listed.begin.Symbol.{name as #callee}
@@ -213,5 +213,5 @@ begin-spec 𝓤 H 𝓜 𝓖 𝓡 =
     entered 𝓤 H (tripleOf 𝓤 H (𝓖 .A) f.signature (f.spec 𝓤 H (𝓖 .A) (𝓜 .mem) (𝓡 .run)))
     (tables 𝓤 H 𝓜 𝓡 code.env .C) (tables 𝓤 H 𝓜 𝓡 code.env .Λ) #begin code.function (code.unfolded 𝓤 H 𝓜 𝓡)
     (meets 𝓤 H (𝓖 .A) (givenOf 𝓤 H 𝓜 𝓖) (𝓜 .mem) (𝓡 .run) (tablesOf 𝓤 H 𝓜 (tables 𝓤 H 𝓜 𝓡 code.env))
-    (cited 𝓤 H (Encode 𝓤 H (𝓖 .A) (𝓜 .mem) (𝓡 .run)) 𝓜 𝓡 code.env #encode encode-def.routine code.calls-operation-list·slice·encode (encode-thm.met 𝓤 H 𝓜 𝓖 𝓡))
+    (cited 𝓤 H (Encode 𝓤 H (𝓖 .A) (𝓜 .mem) (𝓡 .run)) 𝓜 𝓡 code.env #encode encode-def.routine code.calls-operation-bytes·slice·encode (encode-thm.met 𝓤 H 𝓜 𝓖 𝓡))
     (cited 𝓤 H (Callee 𝓤 H (𝓖 .A) (𝓜 .mem) (𝓡 .run)) 𝓜 𝓡 code.env #callee callee-def.routine code.calls-operation-list·listed·begin (callee-thm.met 𝓤 H 𝓜 𝓖 𝓡)))

@@ -14,8 +14,8 @@ use Rattle.operations.specs.declared.operation.Direction.{Direction}
 use Rattle.operations.specs.declared.operation.Direction.the-variants.{Write, Read}
 use Rattle.operations.specs.declared.operation.Operation.{Operation}
 use Rattle.operations.specs.Operations.{shaped}
-use Rattle.operation_list.specs.declared.byte_list.ByteList.{ByteList}
-use Rattle.operation_list.specs.Encoded.{blank, numberOf, bytesOf, encoded, countOf, first257, listOf, Encodes}
+use Rattle.operation_bytes.specs.declared.byte_list.ByteList.{ByteList}
+use Rattle.operation_bytes.specs.Encoded.{blank, numberOf, bytesOf, encoded, countOf, first257, listOf, Encodes}
 
 -- three bytes that are set one after the other are the last three of what is taken past them
 lays : (l : List ℕ) (n a b c : ℕ) → suc (suc n) < length l → take (suc (suc (suc n))) (set (set (set l n a) (suc n) b) (suc (suc n)) c) ≡ take n l ++ (a ∷ b ∷ c ∷ [])

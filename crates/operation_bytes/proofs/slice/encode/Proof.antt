@@ -1,4 +1,4 @@
--- `operation_list::slice::encode` meets its contract: a walk of its MIR, by hand, with the loop by `loops`. Of the four functions that it calls the walk knows only their contracts.
+-- `operation_bytes::slice::encode` meets its contract: a walk of its MIR, by hand, with the loop by `loops`. Of the four functions that it calls the walk knows only their contracts.
 -- A slice that is lent by `&` can be copied: at each turn one copy goes to `operation_at`, and one is kept.
 -- Assumes nothing.
 use mathlib.Core.Path.{_≡_, refl, ap, subst}
@@ -47,32 +47,32 @@ use denote.Exit.{yes}
 use Rattle.operations.specs.declared.operation.Operation.{Operation}
 use Rattle.operations.proofs.operation.Operation as O
 use Rattle.operations.proofs.operation.Operation.Laws as O′
-use Rattle.operation_list.specs.declared.byte_list.ByteList.{ByteList}
-use Rattle.operation_list.specs.Encoded.{blank, bytesOf, countOf, first257, listOf, Encodes}
-use Rattle.operation_list.proofs.EncodedLaws.{at-most, encodes-room, encodes-more, encodes-first}
-use Rattle.operation_list.proofs.byte_list.ByteList as L
-use Rattle.operation_list.proofs.byte_list.ByteList.Laws as L′
-use Rattle.operation_list.proofs.byte_list.count as count
-use Rattle.operation_list.proofs.byte_list.count.Symbol as count-def
-use Rattle.operation_list.proofs.byte_list.count.Symbol.{name as #count}
-use Rattle.operation_list.proofs.byte_list.count.Met as count-thm
-use Rattle.operation_list.proofs.byte_list.none as none
-use Rattle.operation_list.proofs.byte_list.none.Symbol as none-def
-use Rattle.operation_list.proofs.byte_list.none.Symbol.{name as #none}
-use Rattle.operation_list.proofs.byte_list.none.Met as none-thm
-use Rattle.operation_list.proofs.byte_list.with as one-more
-use Rattle.operation_list.proofs.byte_list.with.Symbol as one-more-def
-use Rattle.operation_list.proofs.byte_list.with.Symbol.{name as #with}
-use Rattle.operation_list.proofs.byte_list.with.Met as one-more-thm
-use Rattle.operation_list.proofs.slice.operation_at as element
-use Rattle.operation_list.proofs.slice.operation_at.Symbol as element-def
-use Rattle.operation_list.proofs.slice.operation_at.Symbol.{name as #operation-at}
-use Rattle.operation_list.proofs.slice.operation_at.Met as element-thm
-use Rattle.operation_list.proofs.slice.encode.Key.{name as #encode}
-use Rattle.operation_list.proofs.slice.encode as f
-use Rattle.operation_list.proofs.slice.encode.Statement as stated
-use Rattle.operation_list.proofs.slice.encode.Code as code
-use Rattle.operation_list.proofs.slice.encode.Code.Mir as parts
+use Rattle.operation_bytes.specs.declared.byte_list.ByteList.{ByteList}
+use Rattle.operation_bytes.specs.Encoded.{blank, bytesOf, countOf, first257, listOf, Encodes}
+use Rattle.operation_bytes.proofs.EncodedLaws.{at-most, encodes-room, encodes-more, encodes-first}
+use Rattle.operation_bytes.proofs.byte_list.ByteList as L
+use Rattle.operation_bytes.proofs.byte_list.ByteList.Laws as L′
+use Rattle.operation_bytes.proofs.byte_list.count as count
+use Rattle.operation_bytes.proofs.byte_list.count.Symbol as count-def
+use Rattle.operation_bytes.proofs.byte_list.count.Symbol.{name as #count}
+use Rattle.operation_bytes.proofs.byte_list.count.Met as count-thm
+use Rattle.operation_bytes.proofs.byte_list.none as none
+use Rattle.operation_bytes.proofs.byte_list.none.Symbol as none-def
+use Rattle.operation_bytes.proofs.byte_list.none.Symbol.{name as #none}
+use Rattle.operation_bytes.proofs.byte_list.none.Met as none-thm
+use Rattle.operation_bytes.proofs.byte_list.with as one-more
+use Rattle.operation_bytes.proofs.byte_list.with.Symbol as one-more-def
+use Rattle.operation_bytes.proofs.byte_list.with.Symbol.{name as #with}
+use Rattle.operation_bytes.proofs.byte_list.with.Met as one-more-thm
+use Rattle.operation_bytes.proofs.slice.operation_at as element
+use Rattle.operation_bytes.proofs.slice.operation_at.Symbol as element-def
+use Rattle.operation_bytes.proofs.slice.operation_at.Symbol.{name as #operation-at}
+use Rattle.operation_bytes.proofs.slice.operation_at.Met as element-thm
+use Rattle.operation_bytes.proofs.slice.encode.Key.{name as #encode}
+use Rattle.operation_bytes.proofs.slice.encode as f
+use Rattle.operation_bytes.proofs.slice.encode.Statement as stated
+use Rattle.operation_bytes.proofs.slice.encode.Code as code
+use Rattle.operation_bytes.proofs.slice.encode.Code.Mir as parts
 
 abbrev R : RattleType
 R = O.the-row
@@ -296,8 +296,8 @@ encode-spec 𝓤 H 𝓜 𝓖 𝓡 =
     entered 𝓤 H (tripleOf 𝓤 H (𝓖 .A) f.signature (f.spec 𝓤 H (𝓖 .A) (𝓜 .mem) (𝓡 .run)))
     (tables 𝓤 H 𝓜 𝓡 code.env .C) (tables 𝓤 H 𝓜 𝓡 code.env .Λ) #encode code.function (code.unfolded 𝓤 H 𝓜 𝓡)
     (meets 𝓤 H (𝓖 .A) (givenOf 𝓤 H 𝓜 𝓖) (𝓜 .mem) (𝓡 .run) (tablesOf 𝓤 H 𝓜 (tables 𝓤 H 𝓜 𝓡 code.env)) (record {
-      count = cited 𝓤 H (Count 𝓤 H (𝓖 .A) (𝓜 .mem) (𝓡 .run)) 𝓜 𝓡 code.env #count count-def.routine code.calls-operation-list·byte-list·count (count-thm.met 𝓤 H 𝓜 𝓖 𝓡);
-      none = cited 𝓤 H (None 𝓤 H (𝓖 .A) (𝓜 .mem) (𝓡 .run)) 𝓜 𝓡 code.env #none none-def.routine code.calls-operation-list·byte-list·none (none-thm.met 𝓤 H 𝓜 𝓖 𝓡);
-      with-one = cited 𝓤 H (With 𝓤 H (𝓖 .A) (𝓜 .mem) (𝓡 .run)) 𝓜 𝓡 code.env #with one-more-def.routine code.calls-operation-list·byte-list·with (one-more-thm.met 𝓤 H 𝓜 𝓖 𝓡);
-      element = cited 𝓤 H (Element 𝓤 H (𝓖 .A) (𝓜 .mem) (𝓡 .run)) 𝓜 𝓡 code.env #operation-at element-def.routine code.calls-operation-list·slice·operation-at (element-thm.met 𝓤 H 𝓜 𝓖 𝓡);
+      count = cited 𝓤 H (Count 𝓤 H (𝓖 .A) (𝓜 .mem) (𝓡 .run)) 𝓜 𝓡 code.env #count count-def.routine code.calls-operation-bytes·byte-list·count (count-thm.met 𝓤 H 𝓜 𝓖 𝓡);
+      none = cited 𝓤 H (None 𝓤 H (𝓖 .A) (𝓜 .mem) (𝓡 .run)) 𝓜 𝓡 code.env #none none-def.routine code.calls-operation-bytes·byte-list·none (none-thm.met 𝓤 H 𝓜 𝓖 𝓡);
+      with-one = cited 𝓤 H (With 𝓤 H (𝓖 .A) (𝓜 .mem) (𝓡 .run)) 𝓜 𝓡 code.env #with one-more-def.routine code.calls-operation-bytes·byte-list·with (one-more-thm.met 𝓤 H 𝓜 𝓖 𝓡);
+      element = cited 𝓤 H (Element 𝓤 H (𝓖 .A) (𝓜 .mem) (𝓡 .run)) 𝓜 𝓡 code.env #operation-at element-def.routine code.calls-operation-bytes·slice·operation-at (element-thm.met 𝓤 H 𝓜 𝓖 𝓡);
     }))

@@ -1,4 +1,4 @@
--- `operation_list::slice::operation_at` meets its contract: a walk of its MIR, by hand. The place of `operations[i]` is i * 4 past the slice's pointer, the slice is looked into, element i is taken out of the row,
+-- `operation_bytes::slice::operation_at` meets its contract: a walk of its MIR, by hand. The place of `operations[i]` is i * 4 past the slice's pointer, the slice is looked into, element i is taken out of the row,
 -- copied, and put back, and the token comes back. The code has no check of the bound: it is the contract's to ask.
 -- Assumes nothing.
 use mathlib.Core.Path.{refl, sym}
@@ -37,14 +37,14 @@ use denote.Triple.Spec.{Meets, tripleOf}
 use denote.Triple.Table.{entered}
 use denote.Triple.Walked.{says, needs, Stays, stay-none-slice, stay-none, walkOf, Walks, ends-at, walked, goes-none-slice, goes-none, walk-meets}
 use denote.Exit.{yes}
-use Rattle.operation_list.specs.Encoded.{blank}
+use Rattle.operation_bytes.specs.Encoded.{blank}
 use Rattle.operations.specs.declared.operation.Operation.{Operation}
 use Rattle.operations.proofs.operation.Operation as T
 use Rattle.operations.proofs.operation.Operation.Laws as T′
-use Rattle.operation_list.proofs.slice.operation_at.Key.{name as #operation-list·operation-at}
-use Rattle.operation_list.proofs.slice.operation_at as f
-use Rattle.operation_list.proofs.slice.operation_at.Statement as stated
-use Rattle.operation_list.proofs.slice.operation_at.Code as code
+use Rattle.operation_bytes.proofs.slice.operation_at.Key.{name as #operation-bytes·operation-at}
+use Rattle.operation_bytes.proofs.slice.operation_at as f
+use Rattle.operation_bytes.proofs.slice.operation_at.Statement as stated
+use Rattle.operation_bytes.proofs.slice.operation_at.Code as code
 
 abbrev R : RattleType
 R = T.the-row
@@ -117,5 +117,5 @@ pub operation-at-spec : {M : Type 1} → stated.statement M
 unfolding code.routine tablesOf
 operation-at-spec 𝓤 H 𝓜 𝓖 𝓡 =
     entered 𝓤 H (tripleOf 𝓤 H (𝓖 .A) f.signature (f.spec 𝓤 H (𝓖 .A) (𝓜 .mem) (𝓡 .run)))
-    (tables 𝓤 H 𝓜 𝓡 code.env .C) (tables 𝓤 H 𝓜 𝓡 code.env .Λ) #operation-list·operation-at code.function (code.unfolded 𝓤 H 𝓜 𝓡)
+    (tables 𝓤 H 𝓜 𝓡 code.env .C) (tables 𝓤 H 𝓜 𝓡 code.env .Λ) #operation-bytes·operation-at code.function (code.unfolded 𝓤 H 𝓜 𝓡)
     (meets 𝓤 H (𝓖 .A) (givenOf 𝓤 H 𝓜 𝓖) (𝓜 .mem) (𝓡 .run) (tablesOf 𝓤 H 𝓜 (tables 𝓤 H 𝓜 𝓡 code.env)))

@@ -2,7 +2,7 @@
 ghost use mathlib.Core.Path.{_≡_};
 ghost use Prim.Native.Nat.{_<_};
 ghost use lib.ListN.{length, getD};
-ghost use Rattle.operation_list.specs.Encoded.{blank, first257, Encodes};
+ghost use Rattle.operation_bytes.specs.Encoded.{blank, first257, Encodes};
 use crate::byte_list;
 use crate::byte_list::ByteList;
 use operations::Operation;

@@ -1,12 +1,12 @@
--- `operation_list::byte_list::with` meets its contract.
+-- `operation_bytes::byte_list::with` meets its contract.
 -- Assumes nothing.
 use mathlib.Core.Path.{_≡_, refl}
 use native.Mathlib.Omega.{arith}
 use lib.ListN.{length}
 use borrow.Author.Needs.{needs}
-use Rattle.operation_list.proofs.EncodedLaws.{laid}
-use Rattle.operation_list.proofs.byte_list.with.Statement.{statement}
-use Rattle.operation_list.proofs.byte_list.with.Tie as tie
+use Rattle.operation_bytes.proofs.EncodedLaws.{laid}
+use Rattle.operation_bytes.proofs.byte_list.with.Statement.{statement}
+use Rattle.operation_bytes.proofs.byte_list.with.Tie as tie
 
 pub with-spec : {M : Type 1} → statement M
 with-spec =

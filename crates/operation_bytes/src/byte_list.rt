@@ -2,7 +2,7 @@
 ghost use mathlib.Core.Path.{_≡_};
 ghost use mathlib.Core.List.{[], _++_};
 ghost use Prim.Native.Nat.{_+_, _≤_};
-ghost use Rattle.operation_list.specs.Encoded.{countOf, numberOf, bytesOf, listOf, Encodes};
+ghost use Rattle.operation_bytes.specs.Encoded.{countOf, numberOf, bytesOf, listOf, Encodes};
 use operations::Direction;
 use operations::Operation;
 

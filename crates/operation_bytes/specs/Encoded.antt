@@ -8,7 +8,7 @@ use lib.ListN.{length, take}
 use Rattle.operations.specs.declared.operation.Direction.{Direction}
 use Rattle.operations.specs.declared.operation.Direction.the-variants.{Write, Read}
 use Rattle.operations.specs.declared.operation.Operation.{Operation}
-use Rattle.operation_list.specs.declared.byte_list.ByteList.{ByteList}
+use Rattle.operation_bytes.specs.declared.byte_list.ByteList.{ByteList}
 
 abbrev pub numberOf : Direction → ℕ
 numberOf Write = 0
