@@ -1,6 +1,6 @@
 -- A transaction whose operations are lent as a slice is C's transaction with their bytes.
 -- Assumes nothing.
-use mathlib.Core.Path.{_≡_, refl, ap, subst}
+use mathlib.Core.Path.{_≡_, refl, sym, ap, subst, _∙_}
 use mathlib.Core.Bool.{Bool, true, false}
 use mathlib.Core.List.{List, [], _∷_}
 use Prim.Native.Nat.{ℕ, _+_, _*_, _/_, _%_, _≤_, _<_}
@@ -13,9 +13,10 @@ use Rattle.operations.specs.declared.operation.Direction.{Direction}
 use Rattle.operations.specs.declared.operation.Direction.the-variants.{Write, Read}
 use Rattle.operations.specs.declared.operation.Operation.{Operation}
 use Rattle.operations.specs.Operations.{directionOf, operationOf, operationsOf}
+use Rattle.operations.specs.Runs.{runsOf}
 use Rattle.master.specs.Calls.{refusal, rustWith}
 use Rattle.ch32_i2c.specs.Fed.{Makes}
-use Rattle.ch32_i2c.specs.Demands.{entryOf, ownRefusal, rust}
+use Rattle.ch32_i2c.specs.Demands.{entryOf, ownRefusal, rust, SameRuns, transactions}
 use Rattle.ch32_i2c.proofs.Demands.{demand-2}
 use Rattle.operation_bytes.specs.Encoded.{numberOf, encoded}
 use Rattle.operation_list.specs.Claims.{sliceCall, sliceRefusal, rustOf, SliceIsTheList}
@@ -56,6 +57,11 @@ rust-by : (turns chip address : ℕ) (os : List Operation) (written : List ℕ) 
 unfolding rustWith
 rust-by turns chip address os written room answers = ap (λ (x : List Operation). rustOf turns chip address x written answers) (spells-back os)
 
+-- ---- runs
+
+runs-by : (chip address : ℕ) (os₁ os₂ : List Operation) (written₁ written₂ : List ℕ) (n m : ℕ) → runsOf os₁ ≡ runsOf os₂ → SameRuns (sliceCall chip address os₁ written₁) n (sliceCall chip address os₂ written₂) m
+runs-by chip address os₁ os₂ written₁ written₂ n m e = transactions (ap runsOf (spells-back os₁) ∙ e ∙ ap runsOf (sym (spells-back os₂)))
+
 pub slice-is-the-list : SliceIsTheList
 slice-is-the-list = record {
   spells = spells-back;
@@ -64,4 +70,5 @@ slice-is-the-list = record {
   refuses = refuses-by;
   same = λ chip address os written block bytes accepted turns answers h.
       subst (λ (s : Shown). Makes (entryOf (sliceCall chip address os written)) block bytes answers s) (rust-by turns chip address os written (length bytes) answers) (demand-2 .same (sliceCall chip address os written) block bytes tt accepted turns answers h);
+  runs = runs-by;
 }

@@ -21,7 +21,7 @@ use Rattle.master.specs.Rust.{blocking-transaction}
 use Rattle.images.specs.Numbers.{chipOf}
 use Rattle.ch32_i2c.specs.Fed.{Makes}
 use Rattle.ch32_i2c.specs.Transfer.{transactionBegin, transactionStep}
-use Rattle.ch32_i2c.specs.Demands.{Call, transaction, entryOf, ownRefusal, Accepted}
+use Rattle.ch32_i2c.specs.Demands.{Call, transaction, entryOf, ownRefusal, Accepted, SameRuns}
 use Rattle.operation_bytes.specs.Encoded.{encoded}
 
 -- the call of C that it is
@@ -52,3 +52,5 @@ pub record SliceIsTheList : Type 0 where
   -- demand 2 by the operations: an accepted call makes the accesses and the end of the Rust's transaction, and reads the same bytes
   pub same : (chip address : ℕ) (os : List Operation) (written block bytes : List ℕ) → Accepted (sliceCall chip address os written) block bytes → (turns : ℕ) (answers : List ℕ) → length answers < turns
       → Makes (entryOf (sliceCall chip address os written)) block bytes answers (rustOf turns chip address os written answers)
+  -- demand 3's calls by the operations: two slices whose runs agree, however they are divided
+  pub runs : (chip address : ℕ) (os₁ os₂ : List Operation) (written₁ written₂ : List ℕ) (n m : ℕ) → runsOf os₁ ≡ runsOf os₂ → SameRuns (sliceCall chip address os₁ written₁) n (sliceCall chip address os₂ written₂) m
