@@ -1,8 +1,13 @@
 pub mod NumberLaws
+pub mod Bytes
+pub mod Compared
+pub mod NumberRanges
 pub mod Found
 pub mod InitImageLaws
 pub mod MasterStageLaws
+pub mod MasterStageRanges
 pub mod MasterImageLaws
 pub mod InitSlaveImageLaws
 pub mod SlaveStageLaws
+pub mod SlaveStageRanges
 pub mod SlaveImageLaws

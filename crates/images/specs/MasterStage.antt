@@ -1,6 +1,6 @@
 -- The stages of a master call by number: the group, which of the group's, and the part.
 use Prim.Native.Nat.{ℕ}
-use mathlib.Core.Bool.{cond}
+use mathlib.Core.Bool.{Bool, cond, _&&_}
 use lib.Dec.{eqb}
 use Rattle.master.specs.declared.stage.Fall.{Fall}
 use Rattle.master.specs.declared.stage.Fall.the-variants as fall
@@ -194,3 +194,9 @@ stageOf group what part =
     (cond (eqb group 8) (stage.GenerateStop (stopForOf what) (halfOf part))
     (cond (eqb group 9) (stage.Abort (abortStageOf part))
     stage.Ended)))))))))
+
+-- numbers that the stage that they tell has
+unfoldable pub isStage : ℕ → ℕ → ℕ → Bool
+isStage group what part =
+    eqb (stageGroup (stageOf group what part)) group
+    && (eqb (stageWhat (stageOf group what part)) what && eqb (stagePart (stageOf group what part)) part)

@@ -1,6 +1,6 @@
 // The stages of a master call by number: the group, which of the group's, and the part.
 ghost use mathlib.Core.Path.{_≡_};
-ghost use Rattle.images.specs.MasterStage.{fallNumber, fallOf, fallStageNumber, fallStageOf, launchStageNumber, launchStageOf, flagNumber, flagOf, waitStageNumber, waitStageOf, addressStageNumber, addressStageOf, recvStageNumber, recvStageOf, readStageNumber, readStageOf, stopForNumber, stopForOf, halfNumber, halfOf, abortStageNumber, abortStageOf, stageGroup, stageWhat, stagePart, stageOf};
+ghost use Rattle.images.specs.MasterStage.{fallNumber, fallOf, fallStageNumber, fallStageOf, launchStageNumber, launchStageOf, flagNumber, flagOf, waitStageNumber, waitStageOf, addressStageNumber, addressStageOf, recvStageNumber, recvStageOf, readStageNumber, readStageOf, stopForNumber, stopForOf, halfNumber, halfOf, abortStageNumber, abortStageOf, stageGroup, stageWhat, stagePart, stageOf, isStage};
 use master::Stage;
 use master::stage::AbortStage;
 use master::stage::AddressStage;
@@ -355,5 +355,25 @@ pub fn stage_of(group: u8, what: u8, part: u8) -> Stage
         8 => Stage::GenerateStop(stop_for_of(what), half_of(part)),
         9 => Stage::Abort(abort_stage_of(part)),
         _ => Stage::Ended,
+    }
+}
+
+// Whether these are the numbers of a stage.
+pub fn is_stage(group: u8, what: u8, part: u8) -> bool
+    ensures { λ r. ⌜ r ≡ isStage group what part ⌝ }
+{
+    match group {
+        0 => (what == 0) & (part == 0),
+        1 => (what < 2) & (part < 2),
+        2 => (what == 0) & (part < 4),
+        3 => (what < 7) & (part < 3),
+        4 => (what == 0) & (part < 4),
+        5 => (what == 0) & (part == 0),
+        6 => (what == 0) & (part < 2),
+        7 => (what == 0) & (part < 14),
+        8 => (what < 3) & (part < 2),
+        9 => (what == 0) & (part < 15),
+        10 => (what == 0) & (part == 0),
+        _ => false,
     }
 }

@@ -1,6 +1,6 @@
 // The stages of a slave call by number: the group, which of the group's, and the part.
 ghost use mathlib.Core.Path.{_≡_};
-ghost use Rattle.images.specs.SlaveStage.{stopfForNumber, stopfForOf, stopfStageNumber, stopfStageOf, staleStageNumber, staleStageOf, armStageNumber, armStageOf, matchStageNumber, matchStageOf, halfNumber, halfOf, errorStageNumber, errorStageOf, abortStageNumber, abortStageOf, stageGroup, stageWhat, stagePart, stageOf};
+ghost use Rattle.images.specs.SlaveStage.{stopfForNumber, stopfForOf, stopfStageNumber, stopfStageOf, staleStageNumber, staleStageOf, armStageNumber, armStageOf, matchStageNumber, matchStageOf, halfNumber, halfOf, errorStageNumber, errorStageOf, abortStageNumber, abortStageOf, stageGroup, stageWhat, stagePart, stageOf, isStage};
 use slave::Stage;
 use slave::stage::AbortStage;
 use slave::stage::ArmStage;
@@ -240,5 +240,25 @@ pub fn stage_of(group: u8, what: u8, part: u8) -> Stage
         8 => Stage::Errors(error_stage_of(part)),
         9 => Stage::Abort(abort_stage_of(part)),
         _ => Stage::Ended,
+    }
+}
+
+// Whether these are the numbers of a stage.
+pub fn is_stage(group: u8, what: u8, part: u8) -> bool
+    ensures { λ r. ⌜ r ≡ isStage group what part ⌝ }
+{
+    match group {
+        0 => (what < 2) & (part < 3),
+        1 => (what == 0) & (part < 2),
+        2 => (what == 0) & (part < 4),
+        3 => (what == 0) & (part == 0),
+        4 => (what == 0) & (part < 3),
+        5 => (what == 0) & (part == 0),
+        6 => (what == 0) & (part == 0),
+        7 => (what == 0) & (part < 2),
+        8 => (what == 0) & (part < 2),
+        9 => (what == 0) & (part < 5),
+        10 => (what == 0) & (part == 0),
+        _ => false,
     }
 }
