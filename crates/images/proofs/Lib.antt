@@ -7,6 +7,7 @@ pub mod InitImageLaws
 pub mod MasterStageLaws
 pub mod MasterStageRanges
 pub mod MasterImageLaws
+pub mod MasterImageRanges
 pub mod InitSlaveImageLaws
 pub mod SlaveStageLaws
 pub mod SlaveStageRanges
