@@ -12,3 +12,4 @@ pub mod InitSlaveImageLaws
 pub mod SlaveStageLaws
 pub mod SlaveStageRanges
 pub mod SlaveImageLaws
+pub mod SlaveImageRanges

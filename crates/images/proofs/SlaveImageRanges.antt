@@ -1,0 +1,23 @@
+-- Which blocks are images of a slave call's states: those in which each number is one that it can be.
+-- Assumes nothing.
+use Prim.Native.Nat.{ℕ, _<_}
+use mathlib.Core.Path.{_≡_, refl}
+use mathlib.Core.Bool.{_&&_}
+use lib.Dec.{eqb, ltb}
+use Rattle.block.specs.declared.fields.Fields.{Fields}
+use Rattle.block.specs.Fields.{sameFields}
+use Rattle.images.specs.Numbers.{isChip, isEnding}
+use Rattle.images.specs.SlaveStage.{isStage}
+use Rattle.images.specs.SlaveImage.{kindOf, isKind, slaveFields, slaveOf, unusedEmpty, isCall}
+use Rattle.images.proofs.Bytes.{bytes}
+use Rattle.images.proofs.Compared.{turned, itself, with-true, reordered}
+
+pub kind-range : (n : ℕ) → n < 256 → isKind n ≡ ltb 6 n && ltb n 10
+unfolding isKind kindOf
+kind-range = bytes (λ n. ltb 6 n && ltb n 10) isKind refl
+
+pub image-ranges : (f : Fields) → sameFields (slaveFields (slaveOf f)) f ≡ isCall f && (isStage (f .stage) (f .what) (f .part) && isEnding (f .error) (f .value))
+unfolding sameFields slaveFields slaveOf isCall isKind isChip isStage isEnding unusedEmpty
+image-ranges f =
+    rw (itself (f .word), itself (f .count), turned 0 (f .option), turned 0 (f .run), turned 0 (f .left), turned 0 (f .place), turned 0 (f .divider), turned 0 (f .rise), turned 0 (f .flags), turned 0 (f .address), turned 0 (f .second), turned 0 (f .mhz), turned 0 (f .unused), with-true (eqb (f .address) 0))
+    (reordered (isKind (f .entry)) (eqb (f .option) 0) (isChip (f .chip)) (isStage (f .stage) (f .what) (f .part)) (isEnding (f .error) (f .value)) (unusedEmpty f))
