@@ -1,15 +1,9 @@
 pub mod NumberLaws
-pub mod Bytes
-pub mod Compared
 pub mod NumberRanges
 pub mod Found
 pub mod InitImageLaws
-pub mod MasterStageLaws
-pub mod MasterStageRanges
 pub mod MasterImageLaws
 pub mod MasterImageRanges
 pub mod InitSlaveImageLaws
-pub mod SlaveStageLaws
-pub mod SlaveStageRanges
 pub mod SlaveImageLaws
 pub mod SlaveImageRanges

@@ -9,10 +9,10 @@ use Rattle.block.specs.declared.fields.Fields.{Fields}
 use Rattle.block.specs.Fields.{sameFields}
 use Rattle.master.specs.declared.call.Kind.the-variants as kind
 use Rattle.images.specs.Numbers.{isFlag, isChip, isEnding}
-use Rattle.images.specs.MasterStage.{isStage}
+use Rattle.stage_numbers.specs.MasterStage.{isStage}
 use Rattle.images.specs.MasterImage.{frameOptionsOf, kindEntry, kindOption, kindOf, isKind, masterFields, masterOf, unusedEmpty, isCall}
-use Rattle.images.proofs.Bytes.{bytes}
-use Rattle.images.proofs.Compared.{turned, itself, joined, reordered}
+use Rattle.stage_numbers.proofs.Bytes.{bytes}
+use Rattle.stage_numbers.proofs.Compared.{turned, itself, joined, reordered}
 
 abbrev kindTest : ℕ → ℕ → Bool
 kindTest n o = (ltb 1 n && ltb n 6) && (ltb o 6 && (ltb 3 n || eqb o 0))

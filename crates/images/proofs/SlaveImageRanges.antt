@@ -7,10 +7,10 @@ use lib.Dec.{eqb, ltb}
 use Rattle.block.specs.declared.fields.Fields.{Fields}
 use Rattle.block.specs.Fields.{sameFields}
 use Rattle.images.specs.Numbers.{isChip, isEnding}
-use Rattle.images.specs.SlaveStage.{isStage}
+use Rattle.stage_numbers.specs.SlaveStage.{isStage}
 use Rattle.images.specs.SlaveImage.{kindOf, isKind, slaveFields, slaveOf, unusedEmpty, isCall}
-use Rattle.images.proofs.Bytes.{bytes}
-use Rattle.images.proofs.Compared.{turned, itself, with-true, reordered}
+use Rattle.stage_numbers.proofs.Bytes.{bytes}
+use Rattle.stage_numbers.proofs.Compared.{turned, itself, with-true, reordered}
 
 pub kind-range : (n : ℕ) → n < 256 → isKind n ≡ ltb 6 n && ltb n 10
 unfolding isKind kindOf

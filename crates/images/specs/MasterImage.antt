@@ -13,7 +13,7 @@ use Rattle.master.specs.declared.state.State.{State}
 use Rattle.images.specs.declared.master_image.MasterFound.{MasterFound}
 use Rattle.images.specs.declared.master_image.MasterFound.the-variants.{At, Nothing}
 use Rattle.images.specs.Numbers.{transactionEntry, writeReadEntry, writeEntry, readEntry, flagNumber, flagAt, isFlag, chipNumber, chipOf, isChip, endingError, endingValue}
-use Rattle.images.specs.MasterStage.{stageGroup, stageWhat, stagePart, stageOf}
+use Rattle.stage_numbers.specs.MasterStage.{stageGroup, stageWhat, stagePart, stageOf}
 
 abbrev pub frameOptionsNumber : FrameOptions → ℕ
 frameOptionsNumber frameOptions.FirstAndLastFrame = 0

@@ -11,7 +11,7 @@ use Rattle.slave.specs.declared.state.State.{State}
 use Rattle.images.specs.declared.slave_image.SlaveFound.{SlaveFound}
 use Rattle.images.specs.declared.slave_image.SlaveFound.the-variants.{At, Nothing}
 use Rattle.images.specs.Numbers.{listenEntry, respondToWriteEntry, respondToReadEntry, chipNumber, chipOf, isChip, endingError, endingValue}
-use Rattle.images.specs.SlaveStage.{stageGroup, stageWhat, stagePart, stageOf}
+use Rattle.stage_numbers.specs.SlaveStage.{stageGroup, stageWhat, stagePart, stageOf}
 
 abbrev pub kindEntry : Kind → ℕ
 kindEntry kind.Listen = listenEntry

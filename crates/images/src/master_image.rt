@@ -1,8 +1,7 @@
 // The state of a master call in a block.
 ghost use mathlib.Core.Path.{_≡_};
-ghost use Rattle.images.specs.MasterStage.{stageOf};
+ghost use Rattle.stage_numbers.specs.MasterStage.{stageOf};
 ghost use Rattle.images.specs.MasterImage.{frameOptionsNumber, frameOptionsOf, kindEntry, kindOption, kindOf, isKind, masterFields, masterOf, unusedEmpty, isCall, masterIn};
-use crate::master_stage;
 use crate::numbers;
 use block::Fields;
 use master::Call;
@@ -11,6 +10,7 @@ use master::Kind;
 use master::Progress;
 use master::Stage;
 use master::State;
+use stage_numbers::master_stage;
 
 // What a block says of a master call, if it is the image of a state.
 pub enum MasterFound {

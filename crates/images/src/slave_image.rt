@@ -1,14 +1,14 @@
 // The state of a slave call in a block.
 ghost use mathlib.Core.Path.{_≡_};
-ghost use Rattle.images.specs.SlaveStage.{stageOf};
+ghost use Rattle.stage_numbers.specs.SlaveStage.{stageOf};
 ghost use Rattle.images.specs.SlaveImage.{kindEntry, kindOf, isKind, slaveFields, slaveOf, unusedEmpty, isCall, slaveIn};
 use crate::numbers;
-use crate::slave_stage;
 use block::Fields;
 use slave::Kind;
 use slave::Progress;
 use slave::Stage;
 use slave::State;
+use stage_numbers::slave_stage;
 
 // What a block says of a slave call, if it is the image of a state.
 pub enum SlaveFound {
