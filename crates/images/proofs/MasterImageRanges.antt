@@ -8,9 +8,10 @@ use borrow.Author.Tests.{eqb-true}
 use Rattle.block.specs.declared.fields.Fields.{Fields}
 use Rattle.block.specs.Fields.{sameFields}
 use Rattle.master.specs.declared.call.Kind.the-variants as kind
+use Rattle.images.specs.declared.master_image.MasterFound.the-variants.{At, Nothing}
 use Rattle.images.specs.Numbers.{isFlag, isChip, isEnding}
 use Rattle.stage_numbers.specs.MasterStage.{isStage}
-use Rattle.images.specs.MasterImage.{frameOptionsOf, kindEntry, kindOption, kindOf, isKind, masterFields, masterOf, unusedEmpty, isCall}
+use Rattle.images.specs.MasterImage.{frameOptionsOf, kindEntry, kindOption, kindOf, isKind, masterFields, masterOf, unusedEmpty, isCall, masterIn}
 use Rattle.stage_numbers.proofs.Bytes.{bytes}
 use Rattle.stage_numbers.proofs.Compared.{turned, itself, joined, reordered}
 
@@ -62,3 +63,20 @@ unfolding sameFields masterFields masterOf isCall isKind isChip isStage isEnding
 image-ranges f =
     rw (itself (f .run), itself (f .left), itself (f .place), itself (f .word), itself (f .divider), itself (f .rise), itself (f .address), turned 0 (f .count), turned 0 (f .second), turned 0 (f .mhz), turned 0 (f .unused), joined (isFlag (f .flags)) (eqb (f .count) 0) (eqb (f .second) 0 && (eqb (f .mhz) 0 && eqb (f .unused) 0)))
     (reordered (eqb (kindEntry (kindOf (f .entry) (f .option))) (f .entry)) (eqb (kindOption (kindOf (f .entry) (f .option))) (f .option)) (isChip (f .chip)) (isStage (f .stage) (f .what) (f .part)) (isEnding (f .error) (f .value)) (isFlag (f .flags) && unusedEmpty f))
+
+-- what is found by the tests, one after the other
+pub found : (f : Fields) → isCall f ≡ true → isStage (f .stage) (f .what) (f .part) ≡ true → isEnding (f .error) (f .value) ≡ true → At (masterOf f) ≡ masterIn f
+unfolding masterIn
+found f c s e = rw (image-ranges f, c, s, e)
+
+pub no-ending : (f : Fields) → isCall f ≡ true → isStage (f .stage) (f .what) (f .part) ≡ true → isEnding (f .error) (f .value) ≡ false → Nothing ≡ masterIn f
+unfolding masterIn
+no-ending f c s e = rw (image-ranges f, c, s, e)
+
+pub no-stage : (f : Fields) → isCall f ≡ true → isStage (f .stage) (f .what) (f .part) ≡ false → Nothing ≡ masterIn f
+unfolding masterIn
+no-stage f c s = rw (image-ranges f, c, s)
+
+pub no-call : (f : Fields) → isCall f ≡ false → Nothing ≡ masterIn f
+unfolding masterIn
+no-call f c = rw (image-ranges f, c)

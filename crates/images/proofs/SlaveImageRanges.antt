@@ -2,13 +2,14 @@
 -- Assumes nothing.
 use Prim.Native.Nat.{ℕ, _<_}
 use mathlib.Core.Path.{_≡_, refl}
-use mathlib.Core.Bool.{_&&_}
+use mathlib.Core.Bool.{true, false, _&&_}
 use lib.Dec.{eqb, ltb}
 use Rattle.block.specs.declared.fields.Fields.{Fields}
 use Rattle.block.specs.Fields.{sameFields}
+use Rattle.images.specs.declared.slave_image.SlaveFound.the-variants.{At, Nothing}
 use Rattle.images.specs.Numbers.{isChip, isEnding}
 use Rattle.stage_numbers.specs.SlaveStage.{isStage}
-use Rattle.images.specs.SlaveImage.{kindOf, isKind, slaveFields, slaveOf, unusedEmpty, isCall}
+use Rattle.images.specs.SlaveImage.{kindOf, isKind, slaveFields, slaveOf, unusedEmpty, isCall, slaveIn}
 use Rattle.stage_numbers.proofs.Bytes.{bytes}
 use Rattle.stage_numbers.proofs.Compared.{turned, itself, with-true, reordered}
 
@@ -21,3 +22,20 @@ unfolding sameFields slaveFields slaveOf isCall isKind isChip isStage isEnding u
 image-ranges f =
     rw (itself (f .word), itself (f .count), turned 0 (f .option), turned 0 (f .run), turned 0 (f .left), turned 0 (f .place), turned 0 (f .divider), turned 0 (f .rise), turned 0 (f .flags), turned 0 (f .address), turned 0 (f .second), turned 0 (f .mhz), turned 0 (f .unused), with-true (eqb (f .address) 0))
     (reordered (isKind (f .entry)) (eqb (f .option) 0) (isChip (f .chip)) (isStage (f .stage) (f .what) (f .part)) (isEnding (f .error) (f .value)) (unusedEmpty f))
+
+-- what is found by the tests, one after the other
+pub found : (f : Fields) → isCall f ≡ true → isStage (f .stage) (f .what) (f .part) ≡ true → isEnding (f .error) (f .value) ≡ true → At (slaveOf f) ≡ slaveIn f
+unfolding slaveIn
+found f c s e = rw (image-ranges f, c, s, e)
+
+pub no-ending : (f : Fields) → isCall f ≡ true → isStage (f .stage) (f .what) (f .part) ≡ true → isEnding (f .error) (f .value) ≡ false → Nothing ≡ slaveIn f
+unfolding slaveIn
+no-ending f c s e = rw (image-ranges f, c, s, e)
+
+pub no-stage : (f : Fields) → isCall f ≡ true → isStage (f .stage) (f .what) (f .part) ≡ false → Nothing ≡ slaveIn f
+unfolding slaveIn
+no-stage f c s = rw (image-ranges f, c, s)
+
+pub no-call : (f : Fields) → isCall f ≡ false → Nothing ≡ slaveIn f
+unfolding slaveIn
+no-call f c = rw (image-ranges f, c)
