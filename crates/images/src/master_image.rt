@@ -161,7 +161,8 @@ fn is_call(f: Fields) -> bool
         & (numbers::is_chip(f.chip) & (numbers::is_flag(f.flags) & unused_empty(f)))
 }
 
-// A block is an image where each number is one that it can be. What is read right after its test costs nothing more.
+// A block is an image where each number is one that it can be. Stage and ending are read right behind their tests, so that the
+// compiler joins the branches of both.
 pub fn master_in(f: Fields) -> MasterFound
     ensures { λ r. ⌜ r ≡ masterIn f ⌝ }
 {

@@ -113,7 +113,8 @@ fn is_call(f: Fields) -> bool
     (is_kind(f.entry) & (f.option == 0)) & (numbers::is_chip(f.chip) & unused_empty(f))
 }
 
-// A block is an image where each number is one that it can be. What is read right after its test costs nothing more.
+// A block is an image where each number is one that it can be. Stage and ending are read right behind their tests, so that the
+// compiler joins the branches of both.
 pub fn slave_in(f: Fields) -> SlaveFound
     ensures { λ r. ⌜ r ≡ slaveIn f ⌝ }
 {
