@@ -1,8 +1,9 @@
 pub mod NumberLaws
+pub mod NumberRanges
 pub mod Found
 pub mod InitImageLaws
-pub mod MasterStageLaws
 pub mod MasterImageLaws
+pub mod MasterImageRanges
 pub mod InitSlaveImageLaws
-pub mod SlaveStageLaws
 pub mod SlaveImageLaws
+pub mod SlaveImageRanges

@@ -1,11 +1,11 @@
 -- Numbers that the blocks of several calls share: the entry, the chip, flags, and how a call is to end.
 use Prim.Native.Nat.{ℕ, _+_, _*_, _/_, _%_}
-use mathlib.Core.Bool.{Bool, true, false, cond}
+use mathlib.Core.Bool.{Bool, true, false, cond, _&&_}
 use lib.Dec.{eqb}
 use Rattle.registers.specs.declared.chip.Chip.{Chip}
 use Rattle.access.specs.declared.ending.Ending.{Ending}
 use Rattle.access.specs.declared.ending.Ending.the-variants.{Done, Failed}
-use Rattle.access.specs.Endings.{errorNumber}
+use Rattle.access.specs.Endings.{errorNumber, endingOf}
 
 -- the entries, in the order of the C header
 abbrev pub initEntry : ℕ
@@ -45,12 +45,19 @@ flagsNumber a b c d = flagNumber a + flagNumber b * 2 + flagNumber c * 4 + flagN
 abbrev pub flagAt : ℕ → ℕ → Bool
 flagAt weight n = eqb (n / weight % 2) 1
 
+-- a number that the flag that it tells has
+unfoldable pub isFlag : ℕ → Bool
+isFlag n = eqb (flagNumber (flagAt 1 n)) n
+
 -- 1 for i2c_v3, and 2 for ch32v4
 abbrev pub chipNumber : Chip → ℕ
 chipNumber c = flagsNumber (c .«i2c_v3») (c .ch32v4) false false
 
 abbrev pub chipOf : ℕ → Chip
 chipOf n = record { «i2c_v3» = flagAt 1 n; ch32v4 = flagAt 2 n }
+
+unfoldable pub isChip : ℕ → Bool
+isChip n = eqb (chipNumber (chipOf n)) n
 
 -- how a call is to end: the number of its error, or 0, and the value that it returns
 abbrev pub endingError : Ending → ℕ
@@ -60,3 +67,6 @@ endingError (Failed f) = errorNumber (f .error)
 abbrev pub endingValue : Ending → ℕ
 endingValue (Done o) = o .value
 endingValue (Failed f) = 0
+
+unfoldable pub isEnding : ℕ → ℕ → Bool
+isEnding n v = eqb (endingError (endingOf n v)) n && eqb (endingValue (endingOf n v)) v

@@ -2,7 +2,5 @@
 pub mod init_image;
 pub mod init_slave_image;
 pub mod master_image;
-pub mod master_stage;
 pub mod numbers;
 pub mod slave_image;
-pub mod slave_stage;

@@ -1,15 +1,16 @@
 // The state of a master call in a block.
 ghost use mathlib.Core.Path.{_≡_};
-ghost use Rattle.images.specs.MasterImage.{frameOptionsNumber, frameOptionsOf, kindEntry, kindOption, kindOf, masterFields, masterOf, masterIn};
-use crate::master_stage;
+ghost use Rattle.stage_numbers.specs.MasterStage.{stageOf};
+ghost use Rattle.images.specs.MasterImage.{frameOptionsNumber, frameOptionsOf, kindEntry, kindOption, kindOf, isKind, masterFields, masterOf, unusedEmpty, isCall, masterIn};
 use crate::numbers;
 use block::Fields;
-use block::fields;
 use master::Call;
 use master::FrameOptions;
 use master::Kind;
 use master::Progress;
+use master::Stage;
 use master::State;
+use stage_numbers::master_stage;
 
 // What a block says of a master call, if it is the image of a state.
 pub enum MasterFound {
@@ -76,6 +77,13 @@ fn kind_of(entry: u8, option: u8) -> Kind
     }
 }
 
+// Whether these are the numbers of a kind: only a frame has an option.
+fn is_kind(entry: u8, option: u8) -> bool
+    ensures { λ r. ⌜ r ≡ isKind entry option ⌝ }
+{
+    ((1 < entry) & (entry < 6)) & ((option < 6) & ((3 < entry) | (option == 0)))
+}
+
 // What a block says of a state.
 pub fn master_fields(s: State) -> Fields
     ensures { λ r. ⌜ r ≡ masterFields s ⌝ }
@@ -110,14 +118,14 @@ pub fn master_fields(s: State) -> Fields
     }
 }
 
-// The state that a block says, if it is the image of one.
-fn master_of(f: Fields) -> State
+// The state that a block says, if it is the image of one; its stage is read already.
+fn master_of(f: Fields, stage: Stage) -> State
+    requires { ⌜ stage ≡ stageOf (f .stage) (f .what) (f .part) ⌝ }
     ensures { λ r. ⌜ r ≡ masterOf f ⌝ }
 {
+    let ending = numbers::ending_of(f.error, f.value);
     let chip = numbers::chip_of(f.chip);
     let kind = kind_of(f.entry, f.option);
-    let stage = master_stage::stage_of(f.stage, f.what, f.part);
-    let ending = numbers::ending_of(f.error, f.value);
     State {
         call: Call {
             chip,
@@ -138,12 +146,37 @@ fn master_of(f: Fields) -> State
     }
 }
 
+// Whether the numbers that no master call has a use for are 0.
+fn unused_empty(f: Fields) -> bool
+    ensures { λ r. ⌜ r ≡ unusedEmpty f ⌝ }
+{
+    (f.count == 0) & ((f.second == 0) & ((f.mhz == 0) & (f.unused == 0)))
+}
+
+// Whether the numbers beside those of the stage and the ending are an image's.
+fn is_call(f: Fields) -> bool
+    ensures { λ r. ⌜ r ≡ isCall f ⌝ }
+{
+    is_kind(f.entry, f.option)
+        & (numbers::is_chip(f.chip) & (numbers::is_flag(f.flags) & unused_empty(f)))
+}
+
+// A block is an image where each number is one that it can be. Stage and ending are read right behind their tests, so that the
+// compiler joins the branches of both.
 pub fn master_in(f: Fields) -> MasterFound
     ensures { λ r. ⌜ r ≡ masterIn f ⌝ }
 {
-    let state = master_of(f);
-    if fields::same_fields(master_fields(state), f) {
-        MasterFound::At(state)
+    if is_call(f) {
+        if master_stage::is_stage(f.stage, f.what, f.part) {
+            let stage = master_stage::stage_of(f.stage, f.what, f.part);
+            if numbers::is_ending(f.error, f.value) {
+                MasterFound::At(master_of(f, stage))
+            } else {
+                MasterFound::Nothing
+            }
+        } else {
+            MasterFound::Nothing
+        }
     } else {
         MasterFound::Nothing
     }

@@ -2,7 +2,7 @@
 ghost use mathlib.Core.Path.{_≡_};
 ghost use Prim.Native.Nat.{_≤_, _<_};
 ghost use Rattle.access.specs.Endings.{errorOf, endingOf};
-ghost use Rattle.images.specs.Numbers.{flagNumber, flagsNumber, flagAt, chipNumber, chipOf, endingError, endingValue};
+ghost use Rattle.images.specs.Numbers.{flagNumber, flagsNumber, flagAt, isFlag, chipNumber, chipOf, isChip, endingError, endingValue, isEnding};
 use access::Ending;
 use access::Error;
 use registers::Chip;
@@ -48,6 +48,13 @@ pub fn flag_at(weight: u8, number: u8) -> bool
     number / weight % 2 == 1
 }
 
+// Whether a number is that of a flag.
+pub fn is_flag(number: u8) -> bool
+    ensures { λ r. ⌜ r ≡ isFlag number ⌝ }
+{
+    number < 2
+}
+
 pub fn chip_number(chip: Chip) -> u8
     ensures { λ r. ⌜ r ≡ chipNumber chip ⌝ }
 {
@@ -61,6 +68,12 @@ pub fn chip_of(number: u8) -> Chip
         i2c_v3: flag_at(1, number),
         ch32v4: flag_at(2, number),
     }
+}
+
+pub fn is_chip(number: u8) -> bool
+    ensures { λ r. ⌜ r ≡ isChip number ⌝ }
+{
+    number < 4
 }
 
 fn error_of(number: u8) -> Error
@@ -114,5 +127,16 @@ pub fn ending_of(error: u8, value: u16) -> Ending
         access::ending::returned(value)
     } else {
         access::ending::failed(error_of(error))
+    }
+}
+
+// Whether these are the numbers of an ending. No error is number 7, and a call that fails returns nothing.
+pub fn is_ending(error: u8, value: u16) -> bool
+    ensures { λ r. ⌜ r ≡ isEnding error value ⌝ }
+{
+    match error {
+        0 => true,
+        7 => false,
+        _ => (error < 17) & (value == 0),
     }
 }

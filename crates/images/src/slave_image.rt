@@ -1,13 +1,14 @@
 // The state of a slave call in a block.
 ghost use mathlib.Core.Path.{_≡_};
-ghost use Rattle.images.specs.SlaveImage.{kindEntry, kindOf, slaveFields, slaveOf, slaveIn};
+ghost use Rattle.stage_numbers.specs.SlaveStage.{stageOf};
+ghost use Rattle.images.specs.SlaveImage.{kindEntry, kindOf, isKind, slaveFields, slaveOf, unusedEmpty, isCall, slaveIn};
 use crate::numbers;
-use crate::slave_stage;
 use block::Fields;
-use block::fields;
 use slave::Kind;
 use slave::Progress;
+use slave::Stage;
 use slave::State;
+use stage_numbers::slave_stage;
 
 // What a block says of a slave call, if it is the image of a state.
 pub enum SlaveFound {
@@ -33,6 +34,13 @@ fn kind_of(entry: u8) -> Kind
         8 => Kind::RespondToWrite,
         _ => Kind::RespondToRead,
     }
+}
+
+// Whether this is the number of a kind.
+fn is_kind(entry: u8) -> bool
+    ensures { λ r. ⌜ r ≡ isKind entry ⌝ }
+{
+    (6 < entry) & (entry < 10)
 }
 
 // What a block says of a state.
@@ -68,14 +76,14 @@ pub fn slave_fields(s: State) -> Fields
     }
 }
 
-// The state that a block says, if it is the image of one.
-fn slave_of(f: Fields) -> State
+// The state that a block says, if it is the image of one; its stage is read already.
+fn slave_of(f: Fields, stage: Stage) -> State
+    requires { ⌜ stage ≡ stageOf (f .stage) (f .what) (f .part) ⌝ }
     ensures { λ r. ⌜ r ≡ slaveOf f ⌝ }
 {
+    let ending = numbers::ending_of(f.error, f.value);
     let chip = numbers::chip_of(f.chip);
     let kind = kind_of(f.entry);
-    let stage = slave_stage::stage_of(f.stage, f.what, f.part);
-    let ending = numbers::ending_of(f.error, f.value);
     State {
         chip,
         kind,
@@ -88,12 +96,39 @@ fn slave_of(f: Fields) -> State
     }
 }
 
+// Whether the numbers that no slave call has a use for are 0.
+fn unused_empty(f: Fields) -> bool
+    ensures { λ r. ⌜ r ≡ unusedEmpty f ⌝ }
+{
+    ((f.run == 0) & ((f.left == 0) & (f.place == 0)))
+        & (((f.divider == 0) & (f.rise == 0))
+            & (((f.flags == 0) & (f.address == 0))
+                & ((f.second == 0) & ((f.mhz == 0) & (f.unused == 0)))))
+}
+
+// Whether the numbers beside those of the stage and the ending are an image's.
+fn is_call(f: Fields) -> bool
+    ensures { λ r. ⌜ r ≡ isCall f ⌝ }
+{
+    (is_kind(f.entry) & (f.option == 0)) & (numbers::is_chip(f.chip) & unused_empty(f))
+}
+
+// A block is an image where each number is one that it can be. Stage and ending are read right behind their tests, so that the
+// compiler joins the branches of both.
 pub fn slave_in(f: Fields) -> SlaveFound
     ensures { λ r. ⌜ r ≡ slaveIn f ⌝ }
 {
-    let state = slave_of(f);
-    if fields::same_fields(slave_fields(state), f) {
-        SlaveFound::At(state)
+    if is_call(f) {
+        if slave_stage::is_stage(f.stage, f.what, f.part) {
+            let stage = slave_stage::stage_of(f.stage, f.what, f.part);
+            if numbers::is_ending(f.error, f.value) {
+                SlaveFound::At(slave_of(f, stage))
+            } else {
+                SlaveFound::Nothing
+            }
+        } else {
+            SlaveFound::Nothing
+        }
     } else {
         SlaveFound::Nothing
     }

@@ -7,13 +7,12 @@ use Rattle.images.proofs.slave_image.slave_of.Tie as tie
 
 returns : tie.Need-returns
 unfolding slaveOf
-returns c = rw (c .ending-of .ensures, c .before .stage-of .ensures, c .before .before .kind-of .ensures, c .before .before .before .chip-of .ensures)
+returns c = rw (c .kind-of .ensures, c .before .chip-of .ensures, c .before .before .ending-of .ensures, c .before .before .before .pre)
 
 pub slave-of-spec : {M : Type 1} → statement M
 slave-of-spec =
     tie.close
     (tie.spec
-    (λ c κs. search needs)
     (λ c κs. search needs)
     (λ c κs. search needs)
     (λ c κs. search needs)

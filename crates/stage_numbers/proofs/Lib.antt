@@ -1,0 +1,6 @@
+pub mod Bytes
+pub mod Compared
+pub mod MasterStageLaws
+pub mod MasterStageRanges
+pub mod SlaveStageLaws
+pub mod SlaveStageRanges

@@ -1,0 +1,84 @@
+-- The numbers of a slave call's stage tell the stage.
+-- Assumes nothing.
+use Prim.Native.Nat.{ℕ}
+use mathlib.Core.Path.{_≡_, refl, ap}
+use Rattle.slave.specs.declared.stage.StopfFor.{StopfFor}
+use Rattle.slave.specs.declared.stage.StopfFor.the-variants as stopfFor
+use Rattle.slave.specs.declared.stage.StopfStage.{StopfStage}
+use Rattle.slave.specs.declared.stage.StopfStage.the-variants as stopfStage
+use Rattle.slave.specs.declared.stage.StaleStage.{StaleStage}
+use Rattle.slave.specs.declared.stage.StaleStage.the-variants as staleStage
+use Rattle.slave.specs.declared.stage.ArmStage.{ArmStage}
+use Rattle.slave.specs.declared.stage.ArmStage.the-variants as armStage
+use Rattle.slave.specs.declared.stage.MatchStage.{MatchStage}
+use Rattle.slave.specs.declared.stage.MatchStage.the-variants as matchStage
+use Rattle.slave.specs.declared.stage.Half.{Half}
+use Rattle.slave.specs.declared.stage.Half.the-variants as half
+use Rattle.slave.specs.declared.stage.ErrorStage.{ErrorStage}
+use Rattle.slave.specs.declared.stage.ErrorStage.the-variants as errorStage
+use Rattle.slave.specs.declared.stage.AbortStage.{AbortStage}
+use Rattle.slave.specs.declared.stage.AbortStage.the-variants as abortStage
+use Rattle.slave.specs.declared.stage.Stage.{Stage}
+use Rattle.slave.specs.declared.stage.Stage.the-variants as stage
+use Rattle.stage_numbers.specs.SlaveStage.{stopfForNumber, stopfForOf, stopfStageNumber, stopfStageOf, staleStageNumber, staleStageOf, armStageNumber, armStageOf, matchStageNumber, matchStageOf, halfNumber, halfOf, errorStageNumber, errorStageOf, abortStageNumber, abortStageOf, stageGroup, stageWhat, stagePart, stageOf}
+
+stopf-for-back : (x : StopfFor) → stopfForOf (stopfForNumber x) ≡ x
+unfolding stopfForOf
+stopf-for-back stopfFor.Listen = refl
+stopf-for-back stopfFor.End = refl
+
+stopf-stage-back : (x : StopfStage) → stopfStageOf (stopfStageNumber x) ≡ x
+unfolding stopfStageOf
+stopf-stage-back stopfStage.Status = refl
+stopf-stage-back stopfStage.Read = refl
+stopf-stage-back stopfStage.Write = refl
+
+stale-stage-back : (x : StaleStage) → staleStageOf (staleStageNumber x) ≡ x
+unfolding staleStageOf
+stale-stage-back staleStage.Status = refl
+stale-stage-back staleStage.Clear = refl
+
+arm-stage-back : (x : ArmStage) → armStageOf (armStageNumber x) ≡ x
+unfolding armStageOf
+arm-stage-back armStage.BufferRead = refl
+arm-stage-back armStage.BufferWrite = refl
+arm-stage-back armStage.AckRead = refl
+arm-stage-back armStage.AckWrite = refl
+
+match-stage-back : (x : MatchStage) → matchStageOf (matchStageNumber x) ≡ x
+unfolding matchStageOf
+match-stage-back matchStage.Status = refl
+match-stage-back matchStage.Second = refl
+match-stage-back matchStage.Own = refl
+
+half-back : (x : Half) → halfOf (halfNumber x) ≡ x
+unfolding halfOf
+half-back half.Read = refl
+half-back half.Write = refl
+
+error-stage-back : (x : ErrorStage) → errorStageOf (errorStageNumber x) ≡ x
+unfolding errorStageOf
+error-stage-back errorStage.Clear = refl
+error-stage-back errorStage.Clock = refl
+
+abort-stage-back : (x : AbortStage) → abortStageOf (abortStageNumber x) ≡ x
+unfolding abortStageOf
+abort-stage-back abortStage.DisableRead = refl
+abort-stage-back abortStage.DisableWrite = refl
+abort-stage-back abortStage.Busy = refl
+abort-stage-back abortStage.StopRead = refl
+abort-stage-back abortStage.StopWrite = refl
+
+pub stage-back : (s : Stage) → stageOf (stageGroup s) (stageWhat s) (stagePart s) ≡ s
+unfolding stageOf
+stage-back (stage.ClearStopf what part) = rw (stopf-for-back what, stopf-stage-back part)
+stage-back (stage.Stale part) = ap stage.Stale (stale-stage-back part)
+stage-back (stage.Arm part) = ap stage.Arm (arm-stage-back part)
+stage-back stage.Poll = refl
+stage-back (stage.Match part) = ap stage.Match (match-stage-back part)
+stage-back stage.Receive = refl
+stage-back stage.Send = refl
+stage-back (stage.ClearAf part) = ap stage.ClearAf (half-back part)
+stage-back (stage.Errors part) = ap stage.Errors (error-stage-back part)
+stage-back (stage.Abort part) = ap stage.Abort (abort-stage-back part)
+stage-back stage.Ended = refl

@@ -1,0 +1,2 @@
+pub mod MasterStage
+pub mod SlaveStage

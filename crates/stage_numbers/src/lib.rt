@@ -1,0 +1,3 @@
+// The stages of the master and slave calls by number.
+pub mod master_stage;
+pub mod slave_stage;
