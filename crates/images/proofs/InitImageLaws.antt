@@ -14,7 +14,6 @@ use Rattle.images.proofs.NumberLaws.{flags-back, chip-back}
 use Rattle.images.proofs.Found.{found-state, found-image}
 
 stage-back : (x : Stage) → stageOf (stageNumber x) ≡ x
-unfolding stageOf
 stage-back stage.DisableRead = refl
 stage-back stage.DisableWrite = refl
 stage-back stage.ResetRead = refl

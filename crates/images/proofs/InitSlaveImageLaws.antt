@@ -17,7 +17,6 @@ use Rattle.images.proofs.NumberLaws.{flags-back}
 use Rattle.images.proofs.Found.{found-state, found-image}
 
 init-stage-back : (x : InitStage) → initStageOf (initStageNumber x) ≡ x
-unfolding initStageOf
 init-stage-back initStage.DisableRead = refl
 init-stage-back initStage.DisableWrite = refl
 init-stage-back initStage.BufferRead = refl

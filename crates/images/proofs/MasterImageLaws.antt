@@ -18,7 +18,6 @@ use mathlib.Core.Bool.{Bool, true, false}
 use Rattle.images.specs.Numbers.{flagNumber, flagAt}
 
 frame-options-back : (x : FrameOptions) → frameOptionsOf (frameOptionsNumber x) ≡ x
-unfolding frameOptionsOf
 frame-options-back frameOptions.FirstAndLastFrame = refl
 frame-options-back frameOptions.FirstFrame = refl
 frame-options-back frameOptions.FirstAndNextFrame = refl
@@ -27,7 +26,6 @@ frame-options-back frameOptions.LastFrame = refl
 frame-options-back frameOptions.LastFrameNoStop = refl
 
 kind-back : (k : Kind) → kindOf (kindEntry k) (kindOption k) ≡ k
-unfolding kindOf
 kind-back kind.Transaction = refl
 kind-back kind.WriteRead = refl
 kind-back (kind.Write o) = ap kind.Write (frame-options-back o)

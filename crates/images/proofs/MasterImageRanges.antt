@@ -19,26 +19,25 @@ abbrev kindTest : ℕ → ℕ → Bool
 kindTest n o = (ltb 1 n && ltb n 6) && (ltb o 6 && (ltb 3 n || eqb o 0))
 
 transaction-range : (o : ℕ) → o < 256 → isKind 2 o ≡ kindTest 2 o
-unfolding isKind kindOf
+unfolding isKind
 transaction-range = bytes (kindTest 2) (isKind 2) refl
 
 write-read-range : (o : ℕ) → o < 256 → isKind 3 o ≡ kindTest 3 o
-unfolding isKind kindOf
+unfolding isKind
 write-read-range = bytes (kindTest 3) (isKind 3) refl
 
 write-range : (o : ℕ) → o < 256 → isKind 4 o ≡ kindTest 4 o
-unfolding isKind kindOf frameOptionsOf
+unfolding isKind
 write-range = bytes (kindTest 4) (isKind 4) refl
 
 read-range : (o : ℕ) → o < 256 → isKind 5 o ≡ kindTest 5 o
-unfolding isKind kindOf frameOptionsOf
+unfolding isKind
 read-range = bytes (kindTest 5) (isKind 5) refl
 
 entry-range : (n : ℕ) → n < 256 → ltb 1 n && ltb n 6 ≡ eqb n 2 || (eqb n 3 || (eqb n 4 || eqb n 5))
 entry-range = bytes (λ n. eqb n 2 || (eqb n 3 || (eqb n 4 || eqb n 5))) (λ n. ltb 1 n && ltb n 6) refl
 
 other : (n o : ℕ) → eqb n 2 ≡ false → eqb n 3 ≡ false → eqb n 4 ≡ false → kindOf n o ≡ kind.Read (frameOptionsOf o)
-unfolding kindOf
 other n o e2 e3 e4 = rw (e2, e3, e4)
 
 no-kind : (n o : ℕ) → n < 256 → eqb n 2 ≡ false → eqb n 3 ≡ false → eqb n 4 ≡ false → eqb n 5 ≡ false → isKind n o ≡ kindTest n o

@@ -14,7 +14,6 @@ use Rattle.stage_numbers.proofs.SlaveStageLaws.{stage-back}
 use Rattle.images.proofs.Found.{found-state, found-image}
 
 kind-back : (k : Kind) → kindOf (kindEntry k) ≡ k
-unfolding kindOf
 kind-back kind.Listen = refl
 kind-back kind.RespondToWrite = refl
 kind-back kind.RespondToRead = refl

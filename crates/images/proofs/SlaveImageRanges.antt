@@ -14,7 +14,7 @@ use Rattle.stage_numbers.proofs.Bytes.{bytes}
 use Rattle.stage_numbers.proofs.Compared.{turned, itself, with-true, reordered}
 
 pub kind-range : (n : ℕ) → n < 256 → isKind n ≡ ltb 6 n && ltb n 10
-unfolding isKind kindOf
+unfolding isKind
 kind-range = bytes (λ n. ltb 6 n && ltb n 10) isKind refl
 
 pub image-ranges : (f : Fields) → sameFields (slaveFields (slaveOf f)) f ≡ isCall f && (isStage (f .stage) (f .what) (f .part) && isEnding (f .error) (f .value))

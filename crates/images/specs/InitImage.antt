@@ -26,7 +26,7 @@ stageNumber stage.EnableRead = 10
 stageNumber stage.EnableWrite = 11
 stageNumber stage.Ended = 12
 
-unfoldable pub stageOf : ℕ → Stage
+abbrev pub stageOf : ℕ → Stage
 stageOf n = cond (eqb n 0) stage.DisableRead (cond (eqb n 1) stage.DisableWrite (cond (eqb n 2) stage.ResetRead (cond (eqb n 3) stage.ResetWrite (cond (eqb n 4) stage.ReleaseRead (cond (eqb n 5) stage.ReleaseWrite (cond (eqb n 6) stage.FrequencyRead (cond (eqb n 7) stage.FrequencyWrite (cond (eqb n 8) stage.RiseWrite (cond (eqb n 9) stage.ClockWrite (cond (eqb n 10) stage.EnableRead (cond (eqb n 11) stage.EnableWrite stage.Ended)))))))))))
 
 -- what a block says of a state; the rise time stands where a second address does

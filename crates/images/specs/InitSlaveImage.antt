@@ -26,7 +26,7 @@ initStageNumber initStage.EnableRead = 6
 initStageNumber initStage.EnableWrite = 7
 initStageNumber initStage.Ended = 8
 
-unfoldable pub initStageOf : ℕ → InitStage
+abbrev pub initStageOf : ℕ → InitStage
 initStageOf n = cond (eqb n 0) initStage.DisableRead (cond (eqb n 1) initStage.DisableWrite (cond (eqb n 2) initStage.BufferRead (cond (eqb n 3) initStage.BufferWrite (cond (eqb n 4) initStage.Own (cond (eqb n 5) initStage.Second (cond (eqb n 6) initStage.EnableRead (cond (eqb n 7) initStage.EnableWrite initStage.Ended)))))))
 
 abbrev pub isTen : SlaveAddress → Bool

@@ -23,7 +23,7 @@ frameOptionsNumber frameOptions.NextFrame = 3
 frameOptionsNumber frameOptions.LastFrame = 4
 frameOptionsNumber frameOptions.LastFrameNoStop = 5
 
-unfoldable pub frameOptionsOf : ℕ → FrameOptions
+abbrev pub frameOptionsOf : ℕ → FrameOptions
 frameOptionsOf n = cond (eqb n 0) frameOptions.FirstAndLastFrame (cond (eqb n 1) frameOptions.FirstFrame (cond (eqb n 2) frameOptions.FirstAndNextFrame (cond (eqb n 3) frameOptions.NextFrame (cond (eqb n 4) frameOptions.LastFrame frameOptions.LastFrameNoStop))))
 
 abbrev pub kindEntry : Kind → ℕ
@@ -38,7 +38,7 @@ kindOption kind.WriteRead = 0
 kindOption (kind.Write o) = frameOptionsNumber o
 kindOption (kind.Read o) = frameOptionsNumber o
 
-unfoldable pub kindOf : ℕ → ℕ → Kind
+abbrev pub kindOf : ℕ → ℕ → Kind
 kindOf entry option =
     cond (eqb entry transactionEntry) kind.Transaction
     (cond (eqb entry writeReadEntry) kind.WriteRead

@@ -18,7 +18,7 @@ kindEntry kind.Listen = listenEntry
 kindEntry kind.RespondToWrite = respondToWriteEntry
 kindEntry kind.RespondToRead = respondToReadEntry
 
-unfoldable pub kindOf : ℕ → Kind
+abbrev pub kindOf : ℕ → Kind
 kindOf entry = cond (eqb entry listenEntry) kind.Listen (cond (eqb entry respondToWriteEntry) kind.RespondToWrite kind.RespondToRead)
 
 -- a number that the kind that it tells has

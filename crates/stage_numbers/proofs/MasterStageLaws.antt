@@ -29,24 +29,20 @@ use Rattle.master.specs.declared.stage.Stage.the-variants as stage
 use Rattle.stage_numbers.specs.MasterStage.{fallNumber, fallOf, fallStageNumber, fallStageOf, launchStageNumber, launchStageOf, flagNumber, flagOf, waitStageNumber, waitStageOf, addressStageNumber, addressStageOf, recvStageNumber, recvStageOf, readStageNumber, readStageOf, stopForNumber, stopForOf, halfNumber, halfOf, abortStageNumber, abortStageOf, stageGroup, stageWhat, stagePart, stageOf}
 
 fall-back : (x : Fall) → fallOf (fallNumber x) ≡ x
-unfolding fallOf
 fall-back fall.Start = refl
 fall-back fall.End = refl
 
 fall-stage-back : (x : FallStage) → fallStageOf (fallStageNumber x) ≡ x
-unfolding fallStageOf
 fall-stage-back fallStage.Control = refl
 fall-stage-back fallStage.Clock = refl
 
 launch-stage-back : (x : LaunchStage) → launchStageOf (launchStageNumber x) ≡ x
-unfolding launchStageOf
 launch-stage-back launchStage.Control = refl
 launch-stage-back launchStage.Status = refl
 launch-stage-back launchStage.Read = refl
 launch-stage-back launchStage.Write = refl
 
 flag-back : (x : Flag) → flagOf (flagNumber x) ≡ x
-unfolding flagOf
 flag-back flag.Sb = refl
 flag-back flag.Addr = refl
 flag-back flag.Txe = refl
@@ -56,25 +52,21 @@ flag-back flag.Two = refl
 flag-back flag.Rxne = refl
 
 wait-stage-back : (x : WaitStage) → waitStageOf (waitStageNumber x) ≡ x
-unfolding waitStageOf
 wait-stage-back waitStage.Status = refl
 wait-stage-back waitStage.Clear = refl
 wait-stage-back waitStage.Clock = refl
 
 address-stage-back : (x : AddressStage) → addressStageOf (addressStageNumber x) ≡ x
-unfolding addressStageOf
 address-stage-back addressStage.Control = refl
 address-stage-back addressStage.Master = refl
 address-stage-back addressStage.Word = refl
 address-stage-back addressStage.Cleared = refl
 
 recv-stage-back : (x : RecvStage) → recvStageOf (recvStageNumber x) ≡ x
-unfolding recvStageOf
 recv-stage-back recvStage.Status = refl
 recv-stage-back recvStage.Data = refl
 
 read-stage-back : (x : ReadStage) → readStageOf (readStageNumber x) ≡ x
-unfolding readStageOf
 read-stage-back readStage.PosWrite = refl
 read-stage-back readStage.AckRead = refl
 read-stage-back readStage.AckWrite = refl
@@ -91,18 +83,15 @@ read-stage-back readStage.PosOffRead = refl
 read-stage-back readStage.PosOffWrite = refl
 
 stop-for-back : (x : StopFor) → stopForOf (stopForNumber x) ≡ x
-unfolding stopForOf
 stop-for-back stopFor.Write = refl
 stop-for-back stopFor.One = refl
 stop-for-back stopFor.Two = refl
 
 half-back : (x : Half) → halfOf (halfNumber x) ≡ x
-unfolding halfOf
 half-back half.Read = refl
 half-back half.Write = refl
 
 abort-stage-back : (x : AbortStage) → abortStageOf (abortStageNumber x) ≡ x
-unfolding abortStageOf
 abort-stage-back abortStage.FinishRead = refl
 abort-stage-back abortStage.FinishWrite = refl
 abort-stage-back abortStage.Control = refl
@@ -120,7 +109,6 @@ abort-stage-back abortStage.StopRead = refl
 abort-stage-back abortStage.StopWrite = refl
 
 pub stage-back : (s : Stage) → stageOf (stageGroup s) (stageWhat s) (stagePart s) ≡ s
-unfolding stageOf
 stage-back stage.Begin = refl
 stage-back (stage.WaitStop what part) = rw (fall-back what, fall-stage-back part)
 stage-back (stage.LaunchStart part) = ap stage.LaunchStart (launch-stage-back part)

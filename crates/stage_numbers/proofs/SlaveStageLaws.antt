@@ -23,46 +23,38 @@ use Rattle.slave.specs.declared.stage.Stage.the-variants as stage
 use Rattle.stage_numbers.specs.SlaveStage.{stopfForNumber, stopfForOf, stopfStageNumber, stopfStageOf, staleStageNumber, staleStageOf, armStageNumber, armStageOf, matchStageNumber, matchStageOf, halfNumber, halfOf, errorStageNumber, errorStageOf, abortStageNumber, abortStageOf, stageGroup, stageWhat, stagePart, stageOf}
 
 stopf-for-back : (x : StopfFor) → stopfForOf (stopfForNumber x) ≡ x
-unfolding stopfForOf
 stopf-for-back stopfFor.Listen = refl
 stopf-for-back stopfFor.End = refl
 
 stopf-stage-back : (x : StopfStage) → stopfStageOf (stopfStageNumber x) ≡ x
-unfolding stopfStageOf
 stopf-stage-back stopfStage.Status = refl
 stopf-stage-back stopfStage.Read = refl
 stopf-stage-back stopfStage.Write = refl
 
 stale-stage-back : (x : StaleStage) → staleStageOf (staleStageNumber x) ≡ x
-unfolding staleStageOf
 stale-stage-back staleStage.Status = refl
 stale-stage-back staleStage.Clear = refl
 
 arm-stage-back : (x : ArmStage) → armStageOf (armStageNumber x) ≡ x
-unfolding armStageOf
 arm-stage-back armStage.BufferRead = refl
 arm-stage-back armStage.BufferWrite = refl
 arm-stage-back armStage.AckRead = refl
 arm-stage-back armStage.AckWrite = refl
 
 match-stage-back : (x : MatchStage) → matchStageOf (matchStageNumber x) ≡ x
-unfolding matchStageOf
 match-stage-back matchStage.Status = refl
 match-stage-back matchStage.Second = refl
 match-stage-back matchStage.Own = refl
 
 half-back : (x : Half) → halfOf (halfNumber x) ≡ x
-unfolding halfOf
 half-back half.Read = refl
 half-back half.Write = refl
 
 error-stage-back : (x : ErrorStage) → errorStageOf (errorStageNumber x) ≡ x
-unfolding errorStageOf
 error-stage-back errorStage.Clear = refl
 error-stage-back errorStage.Clock = refl
 
 abort-stage-back : (x : AbortStage) → abortStageOf (abortStageNumber x) ≡ x
-unfolding abortStageOf
 abort-stage-back abortStage.DisableRead = refl
 abort-stage-back abortStage.DisableWrite = refl
 abort-stage-back abortStage.Busy = refl
@@ -70,7 +62,6 @@ abort-stage-back abortStage.StopRead = refl
 abort-stage-back abortStage.StopWrite = refl
 
 pub stage-back : (s : Stage) → stageOf (stageGroup s) (stageWhat s) (stagePart s) ≡ s
-unfolding stageOf
 stage-back (stage.ClearStopf what part) = rw (stopf-for-back what, stopf-stage-back part)
 stage-back (stage.Stale part) = ap stage.Stale (stale-stage-back part)
 stage-back (stage.Arm part) = ap stage.Arm (arm-stage-back part)

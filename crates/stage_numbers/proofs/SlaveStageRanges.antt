@@ -10,39 +10,30 @@ use Rattle.stage_numbers.proofs.Bytes.{count}
 use Rattle.stage_numbers.proofs.Compared.{turned}
 
 pub stopf-for-range : (n : ℕ) → n < 256 → eqb (stopfForNumber (stopfForOf n)) n ≡ ltb n 2
-unfolding stopfForOf
 stopf-for-range = count stopfForNumber stopfForOf 2 refl
 
 pub stopf-stage-range : (n : ℕ) → n < 256 → eqb (stopfStageNumber (stopfStageOf n)) n ≡ ltb n 3
-unfolding stopfStageOf
 stopf-stage-range = count stopfStageNumber stopfStageOf 3 refl
 
 pub stale-stage-range : (n : ℕ) → n < 256 → eqb (staleStageNumber (staleStageOf n)) n ≡ ltb n 2
-unfolding staleStageOf
 stale-stage-range = count staleStageNumber staleStageOf 2 refl
 
 pub arm-stage-range : (n : ℕ) → n < 256 → eqb (armStageNumber (armStageOf n)) n ≡ ltb n 4
-unfolding armStageOf
 arm-stage-range = count armStageNumber armStageOf 4 refl
 
 pub match-stage-range : (n : ℕ) → n < 256 → eqb (matchStageNumber (matchStageOf n)) n ≡ ltb n 3
-unfolding matchStageOf
 match-stage-range = count matchStageNumber matchStageOf 3 refl
 
 pub half-range : (n : ℕ) → n < 256 → eqb (halfNumber (halfOf n)) n ≡ ltb n 2
-unfolding halfOf
 half-range = count halfNumber halfOf 2 refl
 
 pub error-stage-range : (n : ℕ) → n < 256 → eqb (errorStageNumber (errorStageOf n)) n ≡ ltb n 2
-unfolding errorStageOf
 error-stage-range = count errorStageNumber errorStageOf 2 refl
 
 pub abort-stage-range : (n : ℕ) → n < 256 → eqb (abortStageNumber (abortStageOf n)) n ≡ ltb n 5
-unfolding abortStageOf
 abort-stage-range = count abortStageNumber abortStageOf 5 refl
 
 beyond : (g w p : ℕ) → eqb g 0 ≡ false → eqb g 1 ≡ false → eqb g 2 ≡ false → eqb g 3 ≡ false → eqb g 4 ≡ false → eqb g 5 ≡ false → eqb g 6 ≡ false → eqb g 7 ≡ false → eqb g 8 ≡ false → eqb g 9 ≡ false → stageOf g w p ≡ stage.Ended
-unfolding stageOf
 beyond g w p e0 e1 e2 e3 e4 e5 e6 e7 e8 e9 = rw (e0, e1, e2, e3, e4, e5, e6, e7, e8, e9)
 
 -- no stage is of another group

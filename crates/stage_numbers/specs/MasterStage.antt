@@ -31,14 +31,14 @@ abbrev pub fallNumber : Fall → ℕ
 fallNumber fall.Start = 0
 fallNumber fall.End = 1
 
-unfoldable pub fallOf : ℕ → Fall
+abbrev pub fallOf : ℕ → Fall
 fallOf n = cond (eqb n 0) fall.Start fall.End
 
 abbrev pub fallStageNumber : FallStage → ℕ
 fallStageNumber fallStage.Control = 0
 fallStageNumber fallStage.Clock = 1
 
-unfoldable pub fallStageOf : ℕ → FallStage
+abbrev pub fallStageOf : ℕ → FallStage
 fallStageOf n = cond (eqb n 0) fallStage.Control fallStage.Clock
 
 abbrev pub launchStageNumber : LaunchStage → ℕ
@@ -47,7 +47,7 @@ launchStageNumber launchStage.Status = 1
 launchStageNumber launchStage.Read = 2
 launchStageNumber launchStage.Write = 3
 
-unfoldable pub launchStageOf : ℕ → LaunchStage
+abbrev pub launchStageOf : ℕ → LaunchStage
 launchStageOf n = cond (eqb n 0) launchStage.Control (cond (eqb n 1) launchStage.Status (cond (eqb n 2) launchStage.Read launchStage.Write))
 
 abbrev pub flagNumber : Flag → ℕ
@@ -59,7 +59,7 @@ flagNumber flag.Three = 4
 flagNumber flag.Two = 5
 flagNumber flag.Rxne = 6
 
-unfoldable pub flagOf : ℕ → Flag
+abbrev pub flagOf : ℕ → Flag
 flagOf n = cond (eqb n 0) flag.Sb (cond (eqb n 1) flag.Addr (cond (eqb n 2) flag.Txe (cond (eqb n 3) flag.Sent (cond (eqb n 4) flag.Three (cond (eqb n 5) flag.Two flag.Rxne)))))
 
 abbrev pub waitStageNumber : WaitStage → ℕ
@@ -67,7 +67,7 @@ waitStageNumber waitStage.Status = 0
 waitStageNumber waitStage.Clear = 1
 waitStageNumber waitStage.Clock = 2
 
-unfoldable pub waitStageOf : ℕ → WaitStage
+abbrev pub waitStageOf : ℕ → WaitStage
 waitStageOf n = cond (eqb n 0) waitStage.Status (cond (eqb n 1) waitStage.Clear waitStage.Clock)
 
 abbrev pub addressStageNumber : AddressStage → ℕ
@@ -76,14 +76,14 @@ addressStageNumber addressStage.Master = 1
 addressStageNumber addressStage.Word = 2
 addressStageNumber addressStage.Cleared = 3
 
-unfoldable pub addressStageOf : ℕ → AddressStage
+abbrev pub addressStageOf : ℕ → AddressStage
 addressStageOf n = cond (eqb n 0) addressStage.Control (cond (eqb n 1) addressStage.Master (cond (eqb n 2) addressStage.Word addressStage.Cleared))
 
 abbrev pub recvStageNumber : RecvStage → ℕ
 recvStageNumber recvStage.Status = 0
 recvStageNumber recvStage.Data = 1
 
-unfoldable pub recvStageOf : ℕ → RecvStage
+abbrev pub recvStageOf : ℕ → RecvStage
 recvStageOf n = cond (eqb n 0) recvStage.Status recvStage.Data
 
 abbrev pub readStageNumber : ReadStage → ℕ
@@ -102,7 +102,7 @@ readStageNumber readStage.Last = 11
 readStageNumber readStage.PosOffRead = 12
 readStageNumber readStage.PosOffWrite = 13
 
-unfoldable pub readStageOf : ℕ → ReadStage
+abbrev pub readStageOf : ℕ → ReadStage
 readStageOf n = cond (eqb n 0) readStage.PosWrite (cond (eqb n 1) readStage.AckRead (cond (eqb n 2) readStage.AckWrite (cond (eqb n 3) readStage.StartRead (cond (eqb n 4) readStage.StartWrite (cond (eqb n 5) readStage.NackRead (cond (eqb n 6) readStage.NackWrite (cond (eqb n 7) readStage.Third (cond (eqb n 8) readStage.AgainRead (cond (eqb n 9) readStage.AgainWrite (cond (eqb n 10) readStage.SecondLast (cond (eqb n 11) readStage.Last (cond (eqb n 12) readStage.PosOffRead readStage.PosOffWrite))))))))))))
 
 abbrev pub stopForNumber : StopFor → ℕ
@@ -110,14 +110,14 @@ stopForNumber stopFor.Write = 0
 stopForNumber stopFor.One = 1
 stopForNumber stopFor.Two = 2
 
-unfoldable pub stopForOf : ℕ → StopFor
+abbrev pub stopForOf : ℕ → StopFor
 stopForOf n = cond (eqb n 0) stopFor.Write (cond (eqb n 1) stopFor.One stopFor.Two)
 
 abbrev pub halfNumber : Half → ℕ
 halfNumber half.Read = 0
 halfNumber half.Write = 1
 
-unfoldable pub halfOf : ℕ → Half
+abbrev pub halfOf : ℕ → Half
 halfOf n = cond (eqb n 0) half.Read half.Write
 
 abbrev pub abortStageNumber : AbortStage → ℕ
@@ -137,7 +137,7 @@ abortStageNumber abortStage.Master = 12
 abortStageNumber abortStage.StopRead = 13
 abortStageNumber abortStage.StopWrite = 14
 
-unfoldable pub abortStageOf : ℕ → AbortStage
+abbrev pub abortStageOf : ℕ → AbortStage
 abortStageOf n = cond (eqb n 0) abortStage.FinishRead (cond (eqb n 1) abortStage.FinishWrite (cond (eqb n 2) abortStage.Control (cond (eqb n 3) abortStage.Frequency (cond (eqb n 4) abortStage.Divider (cond (eqb n 5) abortStage.Rise (cond (eqb n 6) abortStage.Reset (cond (eqb n 7) abortStage.Release (cond (eqb n 8) abortStage.PutFrequency (cond (eqb n 9) abortStage.PutDivider (cond (eqb n 10) abortStage.PutRise (cond (eqb n 11) abortStage.Enable (cond (eqb n 12) abortStage.Master (cond (eqb n 13) abortStage.StopRead abortStage.StopWrite)))))))))))))
 
 abbrev pub stageGroup : Stage → ℕ
@@ -181,7 +181,7 @@ stagePart (stage.Abort part) = abortStageNumber part
 stagePart stage.Ended = 0
 
 -- the stage of these numbers, if they are those of one
-unfoldable pub stageOf : ℕ → ℕ → ℕ → Stage
+abbrev pub stageOf : ℕ → ℕ → ℕ → Stage
 stageOf group what part =
     cond (eqb group 0) stage.Begin
     (cond (eqb group 1) (stage.WaitStop (fallOf what) (fallStageOf part))

@@ -25,7 +25,7 @@ abbrev pub stopfForNumber : StopfFor → ℕ
 stopfForNumber stopfFor.Listen = 0
 stopfForNumber stopfFor.End = 1
 
-unfoldable pub stopfForOf : ℕ → StopfFor
+abbrev pub stopfForOf : ℕ → StopfFor
 stopfForOf n = cond (eqb n 0) stopfFor.Listen stopfFor.End
 
 abbrev pub stopfStageNumber : StopfStage → ℕ
@@ -33,14 +33,14 @@ stopfStageNumber stopfStage.Status = 0
 stopfStageNumber stopfStage.Read = 1
 stopfStageNumber stopfStage.Write = 2
 
-unfoldable pub stopfStageOf : ℕ → StopfStage
+abbrev pub stopfStageOf : ℕ → StopfStage
 stopfStageOf n = cond (eqb n 0) stopfStage.Status (cond (eqb n 1) stopfStage.Read stopfStage.Write)
 
 abbrev pub staleStageNumber : StaleStage → ℕ
 staleStageNumber staleStage.Status = 0
 staleStageNumber staleStage.Clear = 1
 
-unfoldable pub staleStageOf : ℕ → StaleStage
+abbrev pub staleStageOf : ℕ → StaleStage
 staleStageOf n = cond (eqb n 0) staleStage.Status staleStage.Clear
 
 abbrev pub armStageNumber : ArmStage → ℕ
@@ -49,7 +49,7 @@ armStageNumber armStage.BufferWrite = 1
 armStageNumber armStage.AckRead = 2
 armStageNumber armStage.AckWrite = 3
 
-unfoldable pub armStageOf : ℕ → ArmStage
+abbrev pub armStageOf : ℕ → ArmStage
 armStageOf n = cond (eqb n 0) armStage.BufferRead (cond (eqb n 1) armStage.BufferWrite (cond (eqb n 2) armStage.AckRead armStage.AckWrite))
 
 abbrev pub matchStageNumber : MatchStage → ℕ
@@ -57,21 +57,21 @@ matchStageNumber matchStage.Status = 0
 matchStageNumber matchStage.Second = 1
 matchStageNumber matchStage.Own = 2
 
-unfoldable pub matchStageOf : ℕ → MatchStage
+abbrev pub matchStageOf : ℕ → MatchStage
 matchStageOf n = cond (eqb n 0) matchStage.Status (cond (eqb n 1) matchStage.Second matchStage.Own)
 
 abbrev pub halfNumber : Half → ℕ
 halfNumber half.Read = 0
 halfNumber half.Write = 1
 
-unfoldable pub halfOf : ℕ → Half
+abbrev pub halfOf : ℕ → Half
 halfOf n = cond (eqb n 0) half.Read half.Write
 
 abbrev pub errorStageNumber : ErrorStage → ℕ
 errorStageNumber errorStage.Clear = 0
 errorStageNumber errorStage.Clock = 1
 
-unfoldable pub errorStageOf : ℕ → ErrorStage
+abbrev pub errorStageOf : ℕ → ErrorStage
 errorStageOf n = cond (eqb n 0) errorStage.Clear errorStage.Clock
 
 abbrev pub abortStageNumber : AbortStage → ℕ
@@ -81,7 +81,7 @@ abortStageNumber abortStage.Busy = 2
 abortStageNumber abortStage.StopRead = 3
 abortStageNumber abortStage.StopWrite = 4
 
-unfoldable pub abortStageOf : ℕ → AbortStage
+abbrev pub abortStageOf : ℕ → AbortStage
 abortStageOf n = cond (eqb n 0) abortStage.DisableRead (cond (eqb n 1) abortStage.DisableWrite (cond (eqb n 2) abortStage.Busy (cond (eqb n 3) abortStage.StopRead abortStage.StopWrite)))
 
 abbrev pub stageGroup : Stage → ℕ
@@ -125,7 +125,7 @@ stagePart (stage.Abort part) = abortStageNumber part
 stagePart stage.Ended = 0
 
 -- the stage of these numbers, if they are those of one
-unfoldable pub stageOf : ℕ → ℕ → ℕ → Stage
+abbrev pub stageOf : ℕ → ℕ → ℕ → Stage
 stageOf group what part =
     cond (eqb group 0) (stage.ClearStopf (stopfForOf what) (stopfStageOf part))
     (cond (eqb group 1) (stage.Stale (staleStageOf part))

@@ -7,19 +7,15 @@ use Rattle.images.proofs.master_image.kind_of.Statement.{statement}
 use Rattle.images.proofs.master_image.kind_of.Tie as tie
 
 returns : tie.Need-returns
-unfolding kindOf
 returns c = rw (c .match .keys1)
 
 returns-2 : tie.Need-returns-2
-unfolding kindOf
 returns-2 c = rw (c .match .keys2)
 
 returns-3 : tie.Need-returns-3
-unfolding kindOf
 returns-3 c = rw (c .before .match .keys3, c .frame-options-of .ensures)
 
 returns-4 : tie.Need-returns-4
-unfolding kindOf
 returns-4 c = simp (ne-eqb _ _ (c .before .match .rest .1), ne-eqb _ _ (c .before .match .rest .0 .1), ne-eqb _ _ (c .before .match .rest .0 .0 .1), c .frame-options-of2 .ensures)
 
 pub kind-of-spec : {M : Type 1} → statement M
