@@ -1,21 +1,19 @@
 -- A call played with a list of answers: what is printed.
 use Prim.Native.Nat.{ℕ, zero, suc, _+_}
 use mathlib.Core.Bool.{Bool, true, false, cond}
-use mathlib.Core.List.{List, [], _∷_, _++_}
+use mathlib.Core.List.{List, [], _++_}
 use lib.Dec.{ltb}
 use lib.ListN.{length, getD, take}
-use Rattle.registers.specs.declared.register.Register.{Register}
-use Rattle.registers.specs.declared.register.Register.the-variants.{Ctlr1, Ctlr2, Oaddr1, Oaddr2, Datar, Star1, Star2, Ckcfgr, Rtr}
 use Rattle.access.specs.declared.next.Next.{Next}
 use Rattle.access.specs.declared.next.Next.the-variants.{Read, Write, Clock, End}
-use Rattle.access.specs.declared.ending.Ending.{Ending}
-use Rattle.access.specs.declared.ending.Ending.the-variants.{Done, Failed}
-use Rattle.access.specs.Endings.{errorNumber, failed}
+use Rattle.access.specs.Endings.{failed}
+use Rattle.access.specs.Record.{isData}
 use Rattle.master.specs.declared.state.Stepped.{Stepped}
 use Rattle.master.specs.declared.state.Begun.{Begun}
 use Rattle.master.specs.declared.state.Begun.the-variants.{Accepted, Refused}
 use Rattle.master.specs.Calls.{lentWith}
 use Rattle.master.specs.Steps.{step, stepRead}
+use Rattle.images.specs.Numbers.{endingError}
 use Rattle.bench_text.specs.Shown.{readText, writeText, clockText, arrivedText, endText, openText}
 
 -- how many answers an access takes, and how many bytes arrive with it
@@ -25,19 +23,8 @@ asked (Write r v) = 0
 asked Clock = 1
 asked (End e) = 0
 
-abbrev pub isData : Register → ℕ
-isData Ctlr1 = 0
-isData Ctlr2 = 0
-isData Oaddr1 = 0
-isData Oaddr2 = 0
-isData Datar = 1
-isData Star1 = 0
-isData Star2 = 0
-isData Ckcfgr = 0
-isData Rtr = 0
-
 abbrev pub arriving : Next → ℕ
-arriving (Read r) = isData r
+arriving (Read r) = cond (isData r) 1 0
 arriving (Write r v) = 0
 arriving Clock = 0
 arriving (End e) = 0
@@ -55,16 +42,12 @@ accessText (Write r v) a = writeText r v
 accessText Clock a = clockText a
 accessText (End e) a = []
 
-abbrev pub endNumber : Ending → ℕ
-endNumber (Done o) = 0
-endNumber (Failed f) = errorNumber (f .error)
-
 -- a call that has not ended is open
 abbrev pub endingText : Next → ℕ → List ℕ
 endingText (Read r) used = openText used
 endingText (Write r v) used = openText used
 endingText Clock used = openText used
-endingText (End e) used = endText (endNumber e) used
+endingText (End e) used = endText (endingError e) used
 
 abbrev pub finishText : Next → List ℕ → ℕ → List ℕ
 finishText n bytes used = arrivedText bytes ++ endingText n used

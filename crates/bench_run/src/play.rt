@@ -2,14 +2,15 @@
 ghost use mathlib.Core.Path.{_≡_};
 ghost use Prim.Native.Nat.{_+_, _≤_};
 ghost use lib.ListN.{length, getD, take};
+ghost use Rattle.access.specs.Record.{isData};
 ghost use Rattle.bench_text.specs.Puts.{Puts};
 ghost use Rattle.master.specs.Calls.{lentWith};
 ghost use Rattle.master.specs.Steps.{begin};
-ghost use Rattle.bench_run.specs.Play.{asked, isData, arriving, isEnd, accessText, endNumber, endingText, finishText, playFrom, mostTurns, played};
-use access::Ending;
+ghost use Rattle.bench_run.specs.Play.{asked, arriving, isEnd, accessText, endingText, finishText, playFrom, mostTurns, played};
 use access::Next;
 use bench_text::shown;
 use driver::call;
+use images::numbers;
 use master::Begun;
 use master::Call;
 use master::Stepped;
@@ -31,20 +32,19 @@ fn asked(next: Next) -> usize
     }
 }
 
-fn is_data(register: Register) -> usize
+fn is_data(register: Register) -> bool
     ensures { λ r. ⌜ r ≡ isData register ⌝ }
-    ensures { λ r. ⌜ r ≤ 1 ⌝ }
 {
     match register {
-        Register::Ctlr1 => 0,
-        Register::Ctlr2 => 0,
-        Register::Oaddr1 => 0,
-        Register::Oaddr2 => 0,
-        Register::Datar => 1,
-        Register::Star1 => 0,
-        Register::Star2 => 0,
-        Register::Ckcfgr => 0,
-        Register::Rtr => 0,
+        Register::Ctlr1 => false,
+        Register::Ctlr2 => false,
+        Register::Oaddr1 => false,
+        Register::Oaddr2 => false,
+        Register::Datar => true,
+        Register::Star1 => false,
+        Register::Star2 => false,
+        Register::Ckcfgr => false,
+        Register::Rtr => false,
     }
 }
 
@@ -54,7 +54,7 @@ fn arriving(next: Next) -> usize
     ensures { λ r. ⌜ r ≤ 1 ⌝ }
 {
     match next {
-        Next::Read(register) => is_data(register),
+        Next::Read(register) => if is_data(register) { 1 } else { 0 },
         Next::Write(_, _) => 0,
         Next::Clock => 0,
         Next::End(_) => 0,
@@ -92,18 +92,6 @@ fn put_access(out: &mut [u8], at: usize, next: Next, answer: u16) -> usize
     }
 }
 
-fn end_number(ending: Ending) -> u8
-    ensures { λ r. ⌜ r ≡ endNumber ending ⌝ }
-{
-    match ending {
-        Ending::Done(_) => 0,
-        Ending::Failed(failure) => {
-            let error = failure.error;
-            access::ending::error_number(error)
-        }
-    }
-}
-
 fn put_ending(out: &mut [u8], at: usize, next: Next, used: u32) -> usize
     requires { ⌜ at + 16 ≤ length (now out) ⌝ }
     ensures { λ r. ⌜ Puts (now (out .entry)) at (endingText next used) r (now (out .exit)) ⌝ }
@@ -113,7 +101,7 @@ fn put_ending(out: &mut [u8], at: usize, next: Next, used: u32) -> usize
         Next::Read(_) => shown::put_open(out, at, used),
         Next::Write(_, _) => shown::put_open(out, at, used),
         Next::Clock => shown::put_open(out, at, used),
-        Next::End(ending) => shown::put_end(out, at, end_number(ending), used),
+        Next::End(ending) => shown::put_end(out, at, numbers::ending_error(ending), used),
     }
 }
 
