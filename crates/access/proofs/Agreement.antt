@@ -15,7 +15,7 @@ use Rattle.access.specs.declared.ending.Ending.{Ending}
 use Rattle.access.specs.declared.need.Need.{Need}
 use Rattle.access.specs.declared.need.Need.the-variants as need
 use Rattle.access.specs.Program.{Access, read, write, send, clock, Program, finish, access, keep}
-use Rattle.access.specs.Record.{Shown, event, arrival, answerTo, shownOf}
+use Rattle.access.specs.Record.{event, arrival, shownOf}
 use Rattle.access.specs.Machine.{Machine, seenOwed, seenAnswered, shownFrom}
 
 -- `bytes` are lent for sending, and `at` bytes had arrived before

@@ -1,19 +1,19 @@
 -- Secrecy speaks of something: two machines that exchange bytes as long as they are asked to, with messages of different lengths.
 -- Their ends tell how much is left over and so differ; their struck records do not.
 -- Assumes nothing.
-use mathlib.Core.Path.{_≡_, refl, sym, subst}
+use mathlib.Core.Path.{_≡_, refl, subst}
 use mathlib.Core.Bool.{Bool, true, false, cond}
 use mathlib.Core.List.{List, [], _∷_}
 use mathlib.Core.Option.{some}
 use Prim.Native.Nat.{ℕ, suc, _-_}
 use lib.Dec.{eqb}
-use lib.ListN.{take, length}
+use lib.ListN.{take}
 use Rattle.registers.specs.declared.register.Register.the-variants.{Star1}
 use Rattle.access.specs.declared.ending.Ending.{Ending}
 use Rattle.access.specs.declared.need.Need.{Need}
 use Rattle.access.specs.declared.need.Need.the-variants.{Read, Send, Keep, End}
 use Rattle.access.specs.Endings.{returned}
-use Rattle.access.specs.Record.{Shown, struck, SameStruck, DifferInPayload, EqualUnless}
+use Rattle.access.specs.Record.{SameStruck, DifferInPayload, EqualUnless}
 use Rattle.access.specs.Machine.{Machine, shownFrom}
 use Rattle.access.proofs.Secrecy.{SameNeed, reads, sends, keeps, ends, Kept, payloadNeed, secrecy}
 

@@ -2,9 +2,9 @@
 -- states of one machine are the simple case.
 -- Assumes nothing.
 use mathlib.Core.Path.{_≡_, refl, subst}
-use mathlib.Core.Bool.{Bool, true, false, cond}
+use mathlib.Core.Bool.{Bool, true, false}
 use mathlib.Core.List.{List, [], _∷_}
-use mathlib.Core.Option.{Option, none, some}
+use mathlib.Core.Option.{none, some}
 use Prim.Native.Nat.{ℕ, zero, suc}
 use lib.ListN.{take}
 use Rattle.registers.specs.declared.register.Register.{Register}
@@ -12,8 +12,8 @@ use Rattle.registers.specs.declared.register.Register.the-variants.{Ctlr1, Ctlr
 use Rattle.access.specs.declared.ending.Ending.{Ending}
 use Rattle.access.specs.declared.need.Need.{Need}
 use Rattle.access.specs.declared.need.Need.the-variants as need
-use Rattle.access.specs.Program.{Access, read, write, send, clock}
-use Rattle.access.specs.Record.{Event, Shown, Struck, received, sent, isData, payloadRead, strikeAt, strike, struck, EqualUnless, DifferInPayload, Same, EndsAlike, neither, both, SameStruck}
+use Rattle.access.specs.Program.{read, write, clock}
+use Rattle.access.specs.Record.{Event, Shown, received, sent, isData, payloadRead, strikeAt, EqualUnless, DifferInPayload, Same, neither, both, SameStruck}
 use Rattle.access.specs.Machine.{Machine, seenOwed, seenAnswered, shownFrom}
 
 -- whether the answer to a need is payload

@@ -9,7 +9,7 @@ use Rattle.access.specs.declared.need.Need.{Need}
 use Rattle.access.specs.declared.need.Need.the-variants as need
 use Rattle.access.specs.declared.next.Next.{Next}
 use Rattle.access.specs.declared.next.Next.the-variants as next
-use Rattle.access.specs.Program.{Access, read, write, send, clock}
+use Rattle.access.specs.Program.{read, write, send, clock}
 use Rattle.access.specs.declared.ending.Error.the-variants.{InvalidState}
 use Rattle.access.specs.Endings.{failed}
 use Rattle.access.specs.Record.{Shown, noMore, event, arrival}

@@ -1,14 +1,12 @@
 -- From access to access: what is still to be printed leads to the whole text.
 -- Assumes nothing.
 use Prim.Native.Nat.{ℕ, zero, suc, _+_, _-_, _*_, _≤_, _<_}
-use mathlib.Core.Path.{_≡_, refl, sym, ap, _∙_}
-use mathlib.Core.Bool.{Bool, true, false, cond}
-use mathlib.Core.List.{List, [], _∷_, _++_, append-nil}
+use mathlib.Core.Path.{_≡_, refl, sym, _∙_}
+use mathlib.Core.Bool.{true, false}
+use mathlib.Core.List.{List, [], _++_, append-nil}
 use native.Mathlib.Omega.{arith}
 use borrow.Author.Tests.{lt-ltb, le-ltb}
-use lib.Dec.{ltb}
 use lib.ListN.{length, getD, take}
-use Rattle.access.specs.declared.next.Next.{Next}
 use Rattle.master.specs.declared.state.Stepped.{Stepped}
 use Rattle.master.specs.Calls.{lentWith}
 use Rattle.master.specs.Steps.{step, stepRead}

@@ -1,16 +1,15 @@
 -- What is printed, by what the parser answers and leaves in the buffers.
 -- Assumes nothing.
 use Prim.Native.Nat.{ℕ, _+_, _≤_}
-use mathlib.Core.Path.{_≡_, refl, sym, ap, _∙_}
-use mathlib.Core.List.{List, [], _∷_, _++_}
+use mathlib.Core.Path.{_≡_, ap, _∙_}
+use mathlib.Core.List.{List}
 use native.Mathlib.Omega.{arith}
 use lib.ListN.{length, take, drop}
 use lib.Seq.{sets, sets-eq, take-append-seam}
 use Rattle.bench_text.specs.declared.input.Parts.{Parts}
-use Rattle.bench_text.specs.declared.input.Parsed.{Parsed}
 use Rattle.bench_text.specs.declared.input.Parsed.the-variants as parsed
 use Rattle.bench_text.specs.Shown.{badText}
-use Rattle.bench_text.specs.Input.{Said, Input, badLine, call}
+use Rattle.bench_text.specs.Input.{Input, badLine, call}
 use Rattle.bench_text.specs.Taken.{partsOf, parsedOf, FilledWith}
 use Rattle.bench_run.specs.Printed.{transactionOf, callText, printedOf}
 

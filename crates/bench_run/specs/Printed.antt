@@ -8,7 +8,7 @@ use Rattle.master.specs.Calls.{lentWith}
 use Rattle.master.specs.Steps.{begin}
 use Rattle.images.specs.Numbers.{chipOf}
 use Rattle.bench_text.specs.Shown.{badText}
-use Rattle.bench_text.specs.Input.{Said, Input, badLine, call, inputOf}
+use Rattle.bench_text.specs.Input.{Input, badLine, call}
 use Rattle.bench_run.specs.Play.{played}
 
 -- the transaction of a chip's number and an address

@@ -11,14 +11,12 @@ use borrow.Author.Tests.{lt-ltb, le-ltb}
 use lib.Dec.{eqb, ltb}
 use lib.ListN.{length, take, drop, length-append, length-drop, length-take, drop-of-length-le}
 use lib.Seq.{sets, drop-drop, length-sets}
-use Rattle.bench_text.specs.declared.line.Header.{Header}
 use Rattle.bench_text.specs.declared.line.Header.the-variants as header
 use Rattle.bench_text.specs.declared.input.Parts.{Parts}
-use Rattle.bench_text.specs.declared.input.Taken.{Taken}
 use Rattle.bench_text.specs.declared.input.Taken.the-variants as taken
-use Rattle.bench_text.specs.Lines.{lineLength, lastLine, linesFrom, linesOf}
+use Rattle.bench_text.specs.Lines.{lineLength, linesFrom, linesOf}
 use Rattle.bench_text.specs.Forms.{headerOf, isHeader}
-use Rattle.bench_text.specs.Input.{Line, bad, writes, reads, answers, lineOf, operationBytes, roomWith, Said, saidNothing, saidWith, Input, badLine, call, withLine, inputFrom, inputBehind, inputIn, inputOf}
+use Rattle.bench_text.specs.Input.{Line, bad, writes, reads, answers, lineOf, operationBytes, Said, saidNothing, saidWith, Input, badLine, call, withLine, inputFrom, inputBehind, inputIn, inputOf}
 use Rattle.bench_text.specs.Taken.{partsOf, takenWith, listWith, writtenWith, answersWith, Grows, Room}
 use Rattle.bench_text.proofs.PutLaws.{sets-append}
 

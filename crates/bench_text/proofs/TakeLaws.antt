@@ -1,16 +1,16 @@
 -- What a line says, by the tests of the code.
 -- Assumes nothing.
-use Prim.Native.Nat.{ℕ, _+_, _≤_, _<_}
-use mathlib.Core.Path.{_≡_, refl, sym, ap, _∙_}
+use Prim.Native.Nat.{ℕ, _≤_, _<_}
+use mathlib.Core.Path.{_≡_, refl}
 use mathlib.Core.Bool.{Bool, true, false, cond}
-use mathlib.Core.List.{List, [], _∷_}
+use mathlib.Core.List.{List}
 use borrow.Author.Tests.{eq-eqb, ne-eqb, lt-ltb, le-ltb}
 use lib.Dec.{ltb}
 use lib.ListN.{length, getD, drop}
 use Rattle.bench_text.specs.Forms.{pairsThenEnd, bytesOf, wordsThenEnd, wordsOf, readLengthOf}
 use Rattle.bench_text.specs.declared.input.Parts.{Parts}
 use Rattle.bench_text.specs.Taken.{listWith, writtenWith, answersWith}
-use Rattle.bench_text.specs.Input.{Line, bad, writes, reads, answers, writesIn, readsIn, answersIn, lineOf}
+use Rattle.bench_text.specs.Input.{bad, writes, reads, answers, writesIn, readsIn, answersIn, lineOf}
 
 module _ (l : List ℕ) where
   pub write-bad : pairsThenEnd (drop 2 l) ≡ false → writesIn l ≡ bad

@@ -1,9 +1,9 @@
 -- The forms that a line may have.
 use Prim.Native.Nat.{ℕ, _-_, _%_}
-use mathlib.Core.Bool.{Bool, true, false, cond, not, _&&_}
+use mathlib.Core.Bool.{Bool, false, cond, _&&_}
 use mathlib.Core.List.{List, [], _∷_}
-use lib.Dec.{eqb, ltb, leb}
-use lib.ListN.{length, getD, drop}
+use lib.Dec.{eqb, ltb}
+use lib.ListN.{length, getD}
 use Rattle.bench_text.specs.declared.line.Header.{Header}
 use Rattle.bench_text.specs.declared.line.Header.the-variants as header
 use Rattle.bench_text.specs.Digits.{pairOf, wordOf}

@@ -1,5 +1,5 @@
 -- Document 01's lines: each ends with a line feed, which is kept; what follows the last line feed is a line too, and never right.
-use Prim.Native.Nat.{ℕ, zero, suc}
+use Prim.Native.Nat.{ℕ, suc}
 use mathlib.Core.Bool.{cond}
 use mathlib.Core.List.{List, [], _∷_, _++_}
 use lib.Dec.{eqb}

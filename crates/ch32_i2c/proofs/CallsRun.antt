@@ -1,22 +1,20 @@
 -- What is seen of an accepted call, whichever it is: its machine's, and so layer 1's.
 -- Assumes nothing.
 use mathlib.Core.Path.{_≡_, refl, ap, sym, subst, _∙_}
-use mathlib.Core.Bool.{Bool, true, false, cond, not, _||_}
-use mathlib.Core.List.{List, [], _∷_}
+use mathlib.Core.Bool.{Bool, false, cond, not, _||_}
+use mathlib.Core.List.{List, []}
 use mathlib.Core.Option.{Option, none, some}
-use Prim.Native.Nat.{ℕ, _<_, _≤_}
+use Prim.Native.Nat.{ℕ, _≤_}
 use native.Mathlib.Omega.{arith}
 use lib.Dec.{eqb, ltb}
 use lib.ListN.{length}
 use borrow.Author.Tests.{eqb-true, ltb-false, not-false, le-ltb}
-use Rattle.registers.specs.declared.chip.Chip.{Chip}
 use Rattle.access.specs.declared.ending.Error.{Error}
-use Rattle.access.specs.declared.ending.Error.the-variants.{InvalidState, InvalidArgument, BufferTooLong, InvalidAddress}
-use Rattle.access.specs.Endings.{failed, done}
+use Rattle.access.specs.declared.ending.Error.the-variants.{InvalidState, InvalidArgument, BufferTooLong}
+use Rattle.access.specs.Endings.{failed}
 use Rattle.access.specs.Record.{Shown, noMore}
 use Rattle.access.specs.Machine.{filled, shownFrom}
 use Rattle.block.specs.Bytes32.{blockSize, bytesOf}
-use Rattle.timing.specs.declared.settings.Duty.{Duty}
 use Rattle.timing.specs.declared.settings.Timing.{Timing}
 use Rattle.timing.specs.declared.settings.Timed.{Timed}
 use Rattle.timing.specs.declared.settings.Timed.the-variants as timed
@@ -26,14 +24,12 @@ use Rattle.timing.specs.declared.init.State as timingState
 use Rattle.timing.specs.Rust.{timing}
 use Rattle.timing.specs.Claims as timing
 use Rattle.timing.specs.Machine as initMachine
-use Rattle.timing.proofs.InitAgrees.{init-is-the-rust}
 use Rattle.master.specs.declared.call.Kind.{Kind}
-use Rattle.master.specs.declared.call.Kind.the-variants as kind
 use Rattle.master.specs.declared.call.Call as master
 use Rattle.master.specs.Machine.{master, start, owed}
-use Rattle.master.specs.Calls.{Lent, lentWith, refuse, refusal, callShown, seenAfter, rustWith, shapeOf}
+use Rattle.master.specs.Calls.{Lent, lentWith, refusal, callShown, seenAfter, shapeOf}
 use Rattle.master.specs.Steps.{begin, begunWith}
-use Rattle.master.proofs.CallAgrees.{passed-cause, master-is-the-rust}
+use Rattle.master.proofs.CallAgrees.{passed-cause}
 use Rattle.master.proofs.AcceptedFits.{states-fit}
 use Rattle.slave.specs.declared.config.SlaveConfig.{SlaveConfig}
 use Rattle.slave.specs.declared.init.InitStage.{InitStage}
@@ -41,24 +37,22 @@ use Rattle.slave.specs.declared.init.InitStage.the-variants as initStage
 use Rattle.slave.specs.declared.init.InitState.{InitState}
 use Rattle.slave.specs.declared.state.Setting.{Setting}
 use Rattle.slave.specs.declared.state.Kind as slave
-use Rattle.slave.specs.declared.state.Kind.the-variants.{Listen, RespondToWrite, RespondToRead}
 use Rattle.slave.specs.Init as initSlaveMachine
 use Rattle.slave.specs.Machine as slaveMachine
 use Rattle.slave.specs.Calls.{SlaveLent, sizeOf, sizeRefusal, settingOf, initShown, slaveShown}
 use Rattle.slave.specs.Calls as slaveCalls
 use Rattle.slave.specs.Steps as slaveSteps
-use Rattle.slave.proofs.CallAgrees.{slave-is-the-rust, accepted-shown}
+use Rattle.slave.proofs.CallAgrees.{accepted-shown}
 use Rattle.slave.proofs.FitsKept as slaveFits
 use Rattle.slave_driver.specs.Lent as slaveLent
 use Rattle.images.specs.Numbers.{chipOf}
-use Rattle.images.specs.MasterImage.{frameOptionsOf}
-use Rattle.ch32_i2c.specs.Left.{Left, left, refusedWith}
+use Rattle.ch32_i2c.specs.Left.{left, refusedWith}
 use Rattle.ch32_i2c.specs.Fed.{Entry, Makes}
 use Rattle.ch32_i2c.specs.Init as cInit
-use Rattle.ch32_i2c.specs.Transfer.{callOf, begunLeft, masterBegin}
+use Rattle.ch32_i2c.specs.Transfer.{begunLeft, masterBegin}
 use Rattle.ch32_i2c.specs.InitSlave as cInitSlave
 use Rattle.ch32_i2c.specs.Response as response
-use Rattle.ch32_i2c.specs.Demands.{Call, init, transaction, writeRead, write, read, initSlave, listen, respondToWrite, respondToRead, entryOf, Reads, unknown, ownRefusal, refusalOf, Accepted, rust, rustTimed, timedRefusal, IsMet}
+use Rattle.ch32_i2c.specs.Demands.{Call, unknown, ownRefusal, Accepted, timedRefusal, IsMet}
 use Rattle.ch32_i2c.proofs.Carried.{Carries, carried, unread, carries-unread}
 use Rattle.ch32_i2c.proofs.Recorded.{Recorded, recorded}
 use Rattle.ch32_i2c.proofs.MetEnds.{MetNeed, shown-met}

@@ -1,19 +1,18 @@
 -- The three demands hold.
 -- Assumes nothing.
 use mathlib.Core.Path.{_≡_, refl, ap, sym, subst, _∙_}
-use mathlib.Core.Bool.{Bool, true, false, cond, not, _||_, true≢false}
-use mathlib.Core.List.{List, [], _∷_, map}
+use mathlib.Core.Bool.{Bool, true, false, cond, not, _||_}
+use mathlib.Core.List.{List, [], map}
 use mathlib.Core.Option.{Option, none, some}
-use Prim.Native.Nat.{ℕ, _<_, _≤_}
+use Prim.Native.Nat.{ℕ, _<_}
 use native.Mathlib.Omega.{arith}
 use lib.Dec.{eqb, ltb}
 use lib.ListN.{length, take, length-take}
-use borrow.Author.Tests.{eqb-true, ne-eqb, le-ltb}
 use Rattle.access.specs.declared.ending.Ending.{Ending}
 use Rattle.access.specs.declared.ending.Error.{Error}
-use Rattle.access.specs.declared.ending.Error.the-variants.{InvalidState, InvalidArgument, BufferTooLong, InvalidAddress}
+use Rattle.access.specs.declared.ending.Error.the-variants.{InvalidState, InvalidArgument}
 use Rattle.access.specs.Endings.{failed}
-use Rattle.access.specs.Record.{Event, Shown, noMore, DifferInPayload, Same, SameStruck, EndsAlike, struck}
+use Rattle.access.specs.Record.{Shown, noMore, DifferInPayload, Same, SameStruck, EndsAlike, struck}
 use Rattle.access.specs.Machine.{shownFrom}
 use Rattle.access.proofs.NumberLaws.{number-injective}
 use Rattle.block.specs.Bytes32.{blockSize, Bytes}
@@ -24,10 +23,10 @@ use Rattle.timing.specs.Machine as initMachine
 use Rattle.timing.proofs.InitAgrees.{init-is-the-rust}
 use Rattle.master.specs.declared.call.Call as master
 use Rattle.master.specs.declared.call.Kind.the-variants as kind
-use Rattle.master.specs.Calls.{Lent, lentWith, refuse, refusal, callShown, seenAfter, rustWith, spansBy, spansOf}
+use Rattle.master.specs.Calls.{Lent, lentWith, refuse, refusal, callShown, seenAfter, spansBy, spansOf}
 use Rattle.master.specs.Steps as masterSteps
 use Rattle.master.specs.Claims.{Comparable}
-use Rattle.master.proofs.CallAgrees.{passed-cause, master-is-the-rust, runs-join}
+use Rattle.master.proofs.CallAgrees.{master-is-the-rust, runs-join}
 use Rattle.master.proofs.Secret.{master-is-secret}
 use Rattle.slave.specs.declared.config.SlaveConfig.{SlaveConfig}
 use Rattle.slave.specs.declared.state.Kind as slave
@@ -43,17 +42,16 @@ use Rattle.slave.proofs.Secret.{slave-is-secret}
 use Rattle.slave_driver.specs.Lent as slaveLent
 use Rattle.images.specs.Numbers.{chipOf, transactionEntry, writeReadEntry, writeEntry, readEntry, listenEntry, respondToWriteEntry, respondToReadEntry}
 use Rattle.images.specs.MasterImage.{frameOptionsOf}
-use Rattle.ch32_i2c.specs.Left.{Left, left, refusedWith}
-use Rattle.ch32_i2c.specs.Fed.{Entry, Makes, lefts, handedOut, recordOf, endIn, struckBy, StruckSeen, Seen}
+use Rattle.ch32_i2c.specs.Left.{Left, refusedWith}
+use Rattle.ch32_i2c.specs.Fed.{Makes, struckBy}
 use Rattle.ch32_i2c.specs.Init as cInit
 use Rattle.ch32_i2c.specs.Transfer.{callOf, masterBegin}
 use Rattle.ch32_i2c.specs.Transfer as cTransfer
 use Rattle.ch32_i2c.specs.InitSlave as cInitSlave
 use Rattle.ch32_i2c.specs.Response as cResponse
 use Rattle.ch32_i2c.specs.Demands.{Call, init, transaction, writeRead, write, read, initSlave, listen, respondToWrite, respondToRead, entryOf, Reads, unknown, ownRefusal, refusalOf, Accepted, timedRefusal, rust, rustTimed, NoneAdded, IsMet, takes, Demand1, Demand2, Demand3, SeenAlike, SameRuns, transactions, writeReads, writes, reads, writtenBy, recordAfter, endAfter, struckAfter}
-use Rattle.ch32_i2c.proofs.LeavesLaws.{short, then, else}
-use Rattle.ch32_i2c.proofs.Recorded.{Recorded, seenOf, asSeen, record-is, end-is, struck-is}
-use Rattle.ch32_i2c.proofs.CallsRun.{Parts, parts, Runs, transfer-runs, write-runs, response-runs, unread-runs, init-runs, init-slave-runs, shownTimed, small}
+use Rattle.ch32_i2c.proofs.Recorded.{seenOf, asSeen, record-is, end-is, struck-is}
+use Rattle.ch32_i2c.proofs.CallsRun.{parts, Runs, transfer-runs, write-runs, response-runs, unread-runs, init-runs, init-slave-runs, shownTimed, small}
 use Rattle.ch32_i2c.proofs.Stops.{init-stops, master-stops, init-slave-stops, slave-stops}
 
 -- ---- what the machine of a call shows

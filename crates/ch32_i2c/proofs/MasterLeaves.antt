@@ -25,7 +25,7 @@ use Rattle.master.specs.declared.state.State.{State}
 use Rattle.master.specs.declared.state.Stepped.{Stepped}
 use Rattle.master.specs.declared.state.Begun.{Begun}
 use Rattle.master.specs.Calls.{Lent, lentWith}
-use Rattle.master.specs.Steps.{stateAt, handed, begin, step, stepRead}
+use Rattle.master.specs.Steps.{stateAt, handed, begin, stepRead}
 use Rattle.driver.specs.declared.call.Went.{Went}
 use Rattle.driver.specs.declared.call.Went.the-variants as went
 use Rattle.driver.specs.Went.{firstMove, nextMove, nextRead, steppedBy}

@@ -1,20 +1,18 @@
 -- The record that is built from what is handed out is layer 1's.
 -- Assumes nothing.
-use mathlib.Core.Path.{_≡_, refl, ap, sym, subst, _∙_}
+use mathlib.Core.Path.{_≡_, refl, ap, _∙_}
 use mathlib.Core.Bool.{Bool, true, false, cond}
 use mathlib.Core.List.{List, [], _∷_, map}
 use mathlib.Core.Option.{Option, none, some}
 use Prim.Native.Nat.{ℕ, suc}
 use lib.ListN.{length}
-use Rattle.registers.specs.declared.register.Register.{Register}
 use Rattle.registers.specs.declared.register.Register.the-variants.{Datar}
-use Rattle.access.specs.declared.ending.Ending.{Ending}
 use Rattle.access.specs.declared.need.Need.{Need}
 use Rattle.access.specs.declared.need.Need.the-variants as need
 use Rattle.access.specs.declared.next.Next.{Next}
 use Rattle.access.specs.declared.next.Next.the-variants as next
 use Rattle.access.specs.Program.{Access, read, write, send, clock}
-use Rattle.access.specs.Record.{Event, Shown, Struck, strikeAt, strike, struck, isData, SameStruck, EndsAlike}
+use Rattle.access.specs.Record.{Event, Shown, Struck, strikeAt, strike, struck, isData}
 use Rattle.access.specs.Record as access
 use Rattle.access.specs.Machine.{Machine, filled, seenOwed, seenAnswered, shownFrom}
 use Rattle.ch32_i2c.specs.Fed.{Entry, lefts, handedOut, nextOf, nextsOf, inTurn, Makes, Seen, recordOf, endIn, StruckSeen, whole, sent, received, strikeAs, struckBy}

@@ -1,10 +1,9 @@
 -- Begin and step of an accepted slave call make what its machine shows.
 -- Assumes nothing.
-use mathlib.Core.Path.{_≡_, refl, ap, sym, _∙_}
-use mathlib.Core.Bool.{Bool, true, false, cond, not, _&&_}
-use mathlib.Core.List.{List, []}
-use Prim.Native.Nat.{ℕ, _≤_}
-use lib.Dec.{leb}
+use mathlib.Core.Path.{_≡_, ap, _∙_}
+use mathlib.Core.Bool.{Bool, true, false, not, _&&_}
+use mathlib.Core.List.{List}
+use Prim.Native.Nat.{ℕ}
 use lib.ListN.{length}
 use borrow.Author.Tests.{le-leb}
 use Rattle.registers.specs.declared.chip.Chip.{Chip}
@@ -14,8 +13,7 @@ use Rattle.access.proofs.Choice.{both-true}
 use Rattle.block.specs.Bytes32.{bytesOf}
 use Rattle.slave.specs.declared.state.Kind.{Kind}
 use Rattle.slave.specs.declared.state.Move.{Move}
-use Rattle.slave.specs.declared.state.State.{State}
-use Rattle.slave.specs.Machine.{slave, start, owed, advance}
+use Rattle.slave.specs.Machine.{slave, owed, advance}
 use Rattle.slave.specs.Fits.{fits}
 use Rattle.slave.specs.Calls.{SlaveLent, sizeOf, settingOf, Accepted}
 use Rattle.slave.specs.Calls as calls

@@ -1,12 +1,11 @@
 -- A slave call that is accepted ends with 0 or with an error that was met, 1 to 6.
 -- Assumes nothing.
 use mathlib.Core.Path.{_≡_, refl}
-use mathlib.Core.Bool.{Bool, true, false, cond, _&&_, _||_}
+use mathlib.Core.Bool.{Bool, true, false, cond, _||_}
 use Prim.Native.Nat.{ℕ}
 use lib.Dec.{ltb}
 use Rattle.access.specs.declared.ending.Ending.{Ending}
 use Rattle.access.specs.declared.ending.Ending.the-variants.{Done, Failed}
-use Rattle.access.specs.declared.need.Need.{Need}
 use Rattle.access.specs.declared.need.Need.the-variants as need
 use Rattle.access.specs.Endings.{isMet, hasFailed}
 use Rattle.access.proofs.Choice.{second-true}
@@ -30,7 +29,7 @@ use Rattle.slave.specs.declared.state.Progress.{Progress}
 use Rattle.slave.specs.declared.state.Move.{Move}
 use Rattle.slave.specs.declared.state.Setting.{Setting}
 use Rattle.slave.specs.declared.state.Kind.{Kind}
-use Rattle.slave.specs.Machine.{owed, owedAt, owedStopf, owedStale, owedArm, owedMatch, owedReceive, owedAf, owedErrors, owedAbort}
+use Rattle.slave.specs.Machine.{owed, owedAt, owedStopf, owedStale, owedArm, owedMatch, owedAf, owedErrors, owedAbort}
 use Rattle.slave.specs.Fits.{fits, fitsAt, counts, returns, returnsIn}
 use Rattle.ch32_i2c.proofs.MetEnds.{MetNeed}
 

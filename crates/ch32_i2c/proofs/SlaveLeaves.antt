@@ -25,7 +25,7 @@ use Rattle.slave.specs.declared.state.State.{State}
 use Rattle.slave.specs.declared.state.Stepped.{Stepped}
 use Rattle.slave.specs.declared.state.Begun.{Begun}
 use Rattle.slave.specs.Calls.{sizeOf}
-use Rattle.slave.specs.Steps.{stateAt, handed, begin, step, stepRead}
+use Rattle.slave.specs.Steps.{stateAt, handed, begin, stepRead}
 use Rattle.slave_driver.specs.Lent.{lentWith, bytesBy}
 use Rattle.slave_driver.specs.declared.call.Went.{Went}
 use Rattle.slave_driver.specs.declared.call.Went.the-variants as went

@@ -1,13 +1,13 @@
 -- A step that is not taken is refused, and leaves every lent byte as it was.
 -- Assumes nothing.
-use mathlib.Core.Path.{_≡_, refl, ap, sym, _∙_}
-use mathlib.Core.Bool.{Bool, true, false, cond, not, _&&_}
+use mathlib.Core.Path.{_≡_, refl, ap, _∙_}
+use mathlib.Core.Bool.{Bool, true, false, cond}
 use mathlib.Core.List.{List, []}
 use Prim.Native.Nat.{ℕ}
 use native.Mathlib.Omega.{arith}
 use lib.Dec.{eqb}
 use lib.ListN.{length}
-use borrow.Author.Tests.{eqb-true, not-false}
+use borrow.Author.Tests.{not-false}
 use Rattle.access.specs.declared.ending.Error.the-variants.{InvalidState}
 use Rattle.access.specs.Machine.{isEnd}
 use Rattle.block.specs.declared.fields.Fields.{Fields}
@@ -16,12 +16,11 @@ use Rattle.block.proofs.Codec.{bytes-back}
 use Rattle.timing.specs.declared.init.State as timing
 use Rattle.timing.specs.Machine as initMachine
 use Rattle.master.specs.declared.state.State as master
-use Rattle.master.specs.Calls.{Lent, lentWith}
+use Rattle.master.specs.Calls.{lentWith}
 use Rattle.master.specs.Steps as masterSteps
 use Rattle.slave.specs.declared.init.InitState.{InitState}
 use Rattle.slave.specs.declared.state.State as slave
 use Rattle.slave.specs.Init as initSlaveMachine
-use Rattle.slave.specs.Calls.{SlaveLent, sizeOf}
 use Rattle.slave.specs.Steps as slaveSteps
 use Rattle.slave_driver.specs.Lent as slaveLent
 use Rattle.images.specs.declared.init_image.InitFound.{InitFound}
@@ -40,7 +39,7 @@ use Rattle.images.proofs.InitImageLaws.{init-image}
 use Rattle.images.proofs.MasterImageLaws.{master-image}
 use Rattle.images.proofs.InitSlaveImageLaws.{init-slave-image}
 use Rattle.images.proofs.SlaveImageLaws.{slave-image}
-use Rattle.ch32_i2c.specs.Left.{Left, left, refusedWith}
+use Rattle.ch32_i2c.specs.Left.{refusedWith}
 use Rattle.ch32_i2c.specs.Init as init
 use Rattle.ch32_i2c.specs.Transfer as transfer
 use Rattle.ch32_i2c.specs.InitSlave as initSlave

@@ -1,22 +1,19 @@
 -- Begin and step of an accepted transfer make what its machine shows.
 -- Assumes nothing.
-use mathlib.Core.Path.{_≡_, refl, ap, sym, _∙_}
-use mathlib.Core.Bool.{Bool, true, false, cond, not, _&&_}
-use mathlib.Core.List.{List, []}
-use mathlib.Core.Option.{Option, none, some}
+use mathlib.Core.Path.{_≡_, ap, _∙_}
+use mathlib.Core.Bool.{Bool, true, false, not, _&&_}
+use mathlib.Core.List.{List}
 use Prim.Native.Nat.{ℕ}
 use lib.ListN.{length}
-use Rattle.access.specs.declared.ending.Error.{Error}
 use Rattle.access.specs.declared.ending.Error.the-variants.{InvalidState}
 use Rattle.access.specs.Machine.{filled, kept, isEnd}
 use Rattle.access.proofs.Choice.{both-true}
 use Rattle.block.specs.Bytes32.{bytesOf}
 use Rattle.master.specs.declared.call.Call.{Call}
 use Rattle.master.specs.declared.state.Move.{Move}
-use Rattle.master.specs.declared.state.State.{State}
-use Rattle.master.specs.Machine.{Shape, master, start, owed, advance}
+use Rattle.master.specs.Machine.{master, owed, advance}
 use Rattle.master.specs.Fits.{fits}
-use Rattle.master.specs.Calls.{Lent, lentWith, shapeOf, refusal, refusalBy, Accepted}
+use Rattle.master.specs.Calls.{Lent, lentWith, shapeOf, refusal, Accepted}
 use Rattle.master.specs.Steps.{stateAt, isNone, fitsLent, isOpen, step, stepRead}
 use Rattle.master.proofs.AcceptedFits.{states-fit}
 use Rattle.images.specs.declared.master_image.MasterFound.{MasterFound}

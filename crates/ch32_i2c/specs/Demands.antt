@@ -1,8 +1,8 @@
 -- The three demands, said of what C programs call: of blocks, lent bytes and what the eighteen functions hand out. Each exported function's
 -- contract says that it returns the number of what its definition hands out, and leaves the definition's bytes (specs/Left.antt).
 use mathlib.Core.Path.{_≡_}
-use mathlib.Core.Bool.{Bool, true, false, not, _||_, _&&_}
-use mathlib.Core.List.{List, [], _∷_}
+use mathlib.Core.Bool.{Bool, true, false, not, _||_}
+use mathlib.Core.List.{List, []}
 use mathlib.Core.Option.{Option, none, some}
 use Prim.Native.Nat.{ℕ, _<_, _≤_}
 use lib.Dec.{eqb, ltb}
@@ -22,7 +22,6 @@ use Rattle.timing.specs.declared.settings.Timed.the-variants as timed
 use Rattle.timing.specs.Rust.{timing}
 use Rattle.timing.specs.Claims as timing
 use Rattle.timing.specs.Machine as initMachine
-use Rattle.master.specs.declared.call.Kind.{Kind}
 use Rattle.master.specs.declared.call.Kind.the-variants as kind
 use Rattle.master.specs.Steps as master
 use Rattle.master.specs.Calls.{Lent, lentWith, refuse, refusal, rustWith, spansBy, NoAddedCause}
@@ -44,7 +43,7 @@ use Rattle.images.specs.declared.slave_image.SlaveFound.{SlaveFound}
 use Rattle.images.specs.declared.slave_image.SlaveFound.the-variants as slaveFound
 use Rattle.images.specs.Numbers.{chipOf, transactionEntry, writeReadEntry, writeEntry, readEntry, listenEntry, respondToWriteEntry, respondToReadEntry}
 use Rattle.images.specs.MasterImage.{frameOptionsOf}
-use Rattle.ch32_i2c.specs.Left.{Left, refusedWith}
+use Rattle.ch32_i2c.specs.Left.{refusedWith}
 use Rattle.ch32_i2c.specs.Fed.{Entry, lefts, handedOut, Makes, Seen, StruckSeen, recordOf, endIn, struckBy}
 use Rattle.ch32_i2c.specs.Init.{dutyOf, initBegin, initHeld, initStep}
 use Rattle.ch32_i2c.specs.Transfer.{callOf, masterHeld, transactionBegin, transactionStep, writeReadBegin, writeReadStep, writeBegin, writeStep, readBegin, readStep}

@@ -1,5 +1,5 @@
 -- `init`: what begin and step leave. No bytes are read.
-use mathlib.Core.Bool.{Bool, cond, _||_}
+use mathlib.Core.Bool.{cond, _||_}
 use mathlib.Core.List.{List, []}
 use Prim.Native.Nat.{ℕ}
 use lib.Dec.{eqb, ltb}
@@ -14,7 +14,7 @@ use Rattle.timing.specs.declared.init.Begun.the-variants as begun
 use Rattle.timing.specs.Machine.{begin, step}
 use Rattle.images.specs.declared.init_image.InitFound.{InitFound}
 use Rattle.images.specs.declared.init_image.InitFound.the-variants.{At, Nothing}
-use Rattle.images.specs.Numbers.{chipOf, initEntry}
+use Rattle.images.specs.Numbers.{chipOf}
 use Rattle.images.specs.InitImage.{initFields, initIn}
 use Rattle.ch32_i2c.specs.Left.{Left, left, refusedWith}
 

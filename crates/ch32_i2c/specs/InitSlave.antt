@@ -1,5 +1,5 @@
 -- `init_slave`: what begin and step leave. No bytes are read.
-use mathlib.Core.Bool.{Bool, cond, not, _||_}
+use mathlib.Core.Bool.{Bool, cond, _||_}
 use mathlib.Core.List.{List, []}
 use Prim.Native.Nat.{ℕ}
 use lib.Dec.{eqb, ltb}

@@ -11,7 +11,6 @@ use Rattle.slave.specs.declared.state.Kind.the-variants.{Listen, RespondToWrite
 use Rattle.slave.specs.declared.state.Stepped.{Stepped}
 use Rattle.slave.specs.declared.state.Begun.{Begun}
 use Rattle.slave.specs.declared.state.Begun.the-variants as begun
-use Rattle.slave.specs.Calls.{SlaveLent}
 use Rattle.slave.specs.Steps.{begin, step, stepRead}
 use Rattle.slave_driver.specs.Lent.{lentWith}
 use Rattle.images.specs.declared.slave_image.SlaveFound.{SlaveFound}

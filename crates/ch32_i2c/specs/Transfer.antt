@@ -1,9 +1,9 @@
 -- Transactions, write-reads and frames: what begin and step leave.
-use mathlib.Core.Bool.{Bool, cond, _&&_, _||_}
+use mathlib.Core.Bool.{Bool, cond, _||_}
 use mathlib.Core.List.{List, []}
 use Prim.Native.Nat.{ℕ}
 use lib.Dec.{eqb, ltb}
-use lib.ListN.{length, getD}
+use lib.ListN.{length}
 use Rattle.access.specs.declared.ending.Error.the-variants.{InvalidState, InvalidArgument}
 use Rattle.block.specs.Bytes32.{blockSize, fieldsOf, bytesOf}
 use Rattle.master.specs.declared.call.Call.{Call}

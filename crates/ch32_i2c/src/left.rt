@@ -1,4 +1,4 @@
-// What a function leaves: the number that C sees, and the block.
+// What a refused call returns.
 ghost use mathlib.Core.Path.{_≡_};
 ghost use Rattle.access.specs.Endings.{failed};
 ghost use Rattle.access.specs.Numbers.{nextNumber};
@@ -6,7 +6,6 @@ ghost use Rattle.access.specs.declared.next.Next.the-variants as next;
 use access::Error;
 use access::Next;
 
-// The number of a refusal.
 pub fn refusal(error: Error) -> u64
     ensures { λ r. ⌜ r ≡ nextNumber (next.End (failed error)) ⌝ }
 {

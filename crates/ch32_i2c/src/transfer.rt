@@ -8,7 +8,7 @@ ghost use Rattle.master.specs.Calls.{lentWith};
 ghost use Rattle.master.specs.Steps.{stateAt, handed};
 ghost use Rattle.driver.specs.Went.{steppedBy};
 ghost use Rattle.ch32_i2c.specs.Left.{Leaves, LeavesBlock};
-ghost use Rattle.ch32_i2c.specs.Transfer.{callOf, masterLeft, masterBegin, masterHeld, masterStep, transactionBegin, transactionStep, writeReadBegin, writeReadStep, writeBegin, writeStep, readBegin, readStep};
+ghost use Rattle.ch32_i2c.specs.Transfer.{callOf, masterBegin, masterHeld, masterStep, transactionBegin, transactionStep, writeReadBegin, writeReadStep, writeBegin, writeStep, readBegin, readStep};
 use crate::left;
 use access::Error;
 use block::bytes32;
@@ -47,7 +47,7 @@ fn leave(block: &mut [u8], call: Call, written: &[u8], to: Move) -> u64
     access::next::number(next)
 }
 
-// `unknown`: an argument is none that a call has. `room` is how many bytes are lent to read.
+// `unknown`: an argument is none that a call has.
 fn begin(
     unknown: bool,
     call: Call,

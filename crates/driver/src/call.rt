@@ -1,4 +1,4 @@
-// A call: `begin` hands out the first access or refuses, and `step` takes an answer and hands out what follows. What is lent is
+// A call: its first move, where an answer leads, and what is handed out there; `begin` and `step` join these. What is lent is
 // lent again at each step, and checked as begin did.
 ghost use mathlib.Core.Path.{_≡_};
 ghost use lib.ListN.{length};

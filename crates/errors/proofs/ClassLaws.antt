@@ -1,9 +1,9 @@
 -- Laws of a status word's class.
 -- Assumes nothing.
-use Prim.Native.Nat.{ℕ, _/_, _%_, _^_, _+_, _*_}
+use Prim.Native.Nat.{ℕ, _/_, _%_, _^_, _+_}
 use mathlib.Core.Path.{_≡_, refl, sym, ap, _∙_, subst}
 use mathlib.Core.Bool.{Bool, true, false, cond, _&&_}
-use mathlib.Core.List.{List, [], _∷_, _++_}
+use mathlib.Core.List.{_∷_, _++_}
 use native.Mathlib.Nat.{zero-mod, zero-div}
 use native.Mathlib.Omega.{arith}
 use lib.Pow.{field, mod-mod-pow, shr-shr}
@@ -17,7 +17,7 @@ use Rattle.access.specs.declared.ending.Error.the-variants.{Bus, Arbitration, N
 use Rattle.access.specs.Endings.{isMet}
 use Rattle.errors.specs.declared.Checked.{Checked}
 use Rattle.errors.specs.declared.Checked.the-variants.{Fine, Failed}
-use Rattle.errors.specs.Classes.{classes, class, only, firstOf, errorOf, decided}
+use Rattle.errors.specs.Classes.{class, only, firstOf, errorOf, decided}
 
 decided-if {ℓ} : {X : Type ℓ} (t : Bool) (e : Error) (c : Checked) (h : Error → X) (p : X) → decided (cond t (Failed e) c) h p ≡ cond t (h e) (decided c h p)
 decided-if true e c h p = refl

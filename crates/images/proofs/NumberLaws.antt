@@ -1,6 +1,5 @@
 -- The numbers that blocks share tell what they stand for.
 -- Assumes nothing.
-use Prim.Native.Nat.{ℕ}
 use mathlib.Core.Path.{_≡_, refl}
 use mathlib.Core.Bool.{Bool, true, false}
 use Rattle.registers.specs.declared.chip.Chip.{Chip}

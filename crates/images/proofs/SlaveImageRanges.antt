@@ -9,7 +9,7 @@ use Rattle.block.specs.Fields.{sameFields}
 use Rattle.images.specs.declared.slave_image.SlaveFound.the-variants.{At, Nothing}
 use Rattle.images.specs.Numbers.{isChip, isEnding}
 use Rattle.stage_numbers.specs.SlaveStage.{isStage}
-use Rattle.images.specs.SlaveImage.{kindOf, isKind, slaveFields, slaveOf, unusedEmpty, isCall, slaveIn}
+use Rattle.images.specs.SlaveImage.{isKind, slaveFields, slaveOf, unusedEmpty, isCall, slaveIn}
 use Rattle.stage_numbers.proofs.Bytes.{bytes}
 use Rattle.stage_numbers.proofs.Compared.{turned, itself, with-true, reordered}
 

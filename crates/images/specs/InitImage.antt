@@ -1,6 +1,6 @@
 -- The state of `init` in a block.
 use Prim.Native.Nat.{ℕ}
-use mathlib.Core.Bool.{Bool, cond, false}
+use mathlib.Core.Bool.{cond, false}
 use lib.Dec.{eqb}
 use Rattle.block.specs.declared.fields.Fields.{Fields}
 use Rattle.block.specs.Fields.{sameFields}

@@ -1,29 +1,26 @@
 -- An accepted call begins with a state that fits what is lent, and every step keeps it so.
 -- Assumes nothing.
 use mathlib.Core.Path.{_≡_, refl, sym, ap, _∙_, subst}
-use mathlib.Core.Bool.{Bool, true, false, cond, true≢false}
+use mathlib.Core.Bool.{true, false, true≢false}
 use mathlib.Core.List.{List, [], _∷_, map}
 use mathlib.Core.Option.{none}
-use Prim.Native.Nat.{ℕ, zero, suc, _+_, _≤_, _<_}
+use Prim.Native.Nat.{ℕ, zero, suc, _+_, _≤_}
 use native.Mathlib.Omega.{arith}
 use lib.Dec.{eqb, ltb}
 use lib.ListN.{length}
 use Rattle.access.specs.declared.ending.Error.the-variants.{Overrun, InvalidAddress}
 use Rattle.operations.specs.declared.search.Run.{Run}
 use Rattle.operations.specs.declared.search.FoundRun.the-variants.{At}
-use Rattle.operations.specs.Operations.{isRead, operationsOf}
+use Rattle.operations.specs.Operations.{operationsOf}
 use Rattle.operations.specs.Runs.{Span, runsOf, runFrom, runAt, writtenSum, readSum}
 use Rattle.operations.proofs.RunLaws.{few-runs, few-operations}
-use Rattle.operations.proofs.SumLaws.{eachSpan, written-runs}
+use Rattle.operations.proofs.SumLaws.{written-runs}
 use Rattle.operations.proofs.FoundLaws.{FilledRuns, same-run, not-found, found-filled, found-small, found-below, found-next}
 use Rattle.master.specs.declared.call.Kind.{Kind}
 use Rattle.master.specs.declared.call.Kind.the-variants as kind
 use Rattle.master.specs.declared.call.Call.{Call}
 use Rattle.master.specs.declared.call.Setting.{Setting}
-use Rattle.master.specs.declared.state.Move.{Move}
 use Rattle.master.specs.Joined.{Joined, JW, JR, joined}
-use Rattle.master.specs.Machine.{Shape, advance, start}
-use Rattle.master.specs.Fits.{fits}
 use Rattle.master.specs.Calls.{Lent, cut, Accepted, refusalAt, refusal, shapeOf}
 use Rattle.master.specs.Claims.{StatesFit}
 use Rattle.master.proofs.Counts.{next-place, positive}

@@ -1,28 +1,28 @@
--- Theorem A for the calls of the master: every kind, refused calls included.
+-- The calls of the master show what the Rust shows: every kind, refused calls included.
 -- Assumes nothing.
-use mathlib.Core.Path.{_≡_, refl, sym, ap, _∙_, subst}
+use mathlib.Core.Path.{_≡_, refl, sym, ap, _∙_}
 use mathlib.Core.Bool.{Bool, true, false, cond, not, _||_, true≢false}
-use mathlib.Core.List.{List, [], _∷_, _++_, map, append-nil}
+use mathlib.Core.List.{List, [], _∷_, map, append-nil}
 use mathlib.Core.Option.{Option, none, some}
-use Prim.Native.Nat.{ℕ, zero, suc, pred, _+_, _≤_, _<_}
+use Prim.Native.Nat.{ℕ, suc, pred, _+_, _≤_, _<_}
 use native.Mathlib.Nat.{zero-add}
 use native.Mathlib.Omega.{arith}
-use borrow.Author.Tests.{lt-ltb, le-ltb, eq-eqb, ltb-false, eqb-true, not-false}
-use lib.Dec.{eqb, ltb, eqb·suc-zero}
-use lib.ListN.{length, drop, length-map}
+use borrow.Author.Tests.{le-ltb, eq-eqb, ltb-false, eqb-true, not-false}
+use lib.Dec.{eqb, ltb}
+use lib.ListN.{length, length-map}
 use Rattle.registers.specs.declared.chip.Chip.{Chip}
 use Rattle.access.specs.declared.ending.Error.{Error}
 use Rattle.access.specs.declared.ending.Error.the-variants.{Overrun, BufferTooLong, InvalidAddress, TooManyOperations, LengthMismatch, InvalidArgument}
 use Rattle.access.specs.declared.ending.Failure.{Failure}
 use Rattle.access.specs.declared.ending.Ending.the-variants.{Failed}
-use Rattle.access.specs.Endings.{done, failed, failureOf}
+use Rattle.access.specs.Endings.{done, failureOf}
 use Rattle.access.specs.Program.{Program, finish}
-use Rattle.access.specs.Record.{Shown, noMore, shownOf}
+use Rattle.access.specs.Record.{Shown, shownOf}
 use Rattle.access.specs.Machine.{shownFrom}
-use Rattle.access.proofs.Agreement.{Agree, ends, along}
+use Rattle.access.proofs.Agreement.{ends}
 use Rattle.operations.specs.declared.operation.Operation.{Operation}
 use Rattle.operations.specs.Operations.{operationsOf, shaped}
-use Rattle.operations.specs.Runs.{Span, runsFrom, runsOf, runFrom, runAt, writtenSum, readSum}
+use Rattle.operations.specs.Runs.{Span, runsOf, runFrom, runAt, writtenSum, readSum}
 use Rattle.operations.specs.Search.{faultFrom}
 use Rattle.operations.proofs.RunLaws.{few-runs, few-operations}
 use Rattle.operations.proofs.SumLaws.{eachSpan, written-runs, read-runs, fault-free-small}
@@ -33,14 +33,14 @@ use Rattle.master.specs.declared.call.Kind.the-variants as kind
 use Rattle.master.specs.declared.call.Call.{Call}
 use Rattle.master.specs.Rust as rust
 use Rattle.master.specs.Joined.{Joined, JW, JR, framed, joined, runs-program}
-use Rattle.master.specs.Machine.{Shape, counted, fresh, to, master, start, owed}
+use Rattle.master.specs.Machine.{Shape, counted, fresh, master, start, owed}
 use Rattle.master.specs.Calls.{Lent, cut, refuse, orNext, mismatch, refusalAt, refusal, InForm, NoAddedCause, Accepted, shapeOf, seenAfter, callShown, rustWith}
 use Rattle.master.specs.Claims.{MasterIsTheRust, RunsJoin}
 use Rattle.master.proofs.Counts.{positive, suc-of}
 use Rattle.master.proofs.MasterAgrees.{write-bytes-agrees, blocking-read-iter-agrees}
 use Rattle.master.proofs.Joining.{transaction-joins}
 use Rattle.master.proofs.LentLaws.{spanJ, bytesJ, FilledJ, list-spans, list-bytes, list-filled, verdict, validate-operations-agrees, fault-free-filled}
-use Rattle.master.proofs.RunsAgree.{Stands, resumes, runs-agree}
+use Rattle.master.proofs.RunsAgree.{resumes, runs-agree}
 
 -- what follows an error in a whole call, and its answer
 abbrev h : Failure → Program
@@ -192,7 +192,7 @@ module _ (chip : Chip) (address : ℕ) (l : Lent) (n : ℕ) (answers : List ℕ)
       not-refused (call (kind.Read o)) l answers _ BufferTooLong none _ (le-ltb 65535 (l .room) small)
       (read-shown o ok small (pred (l .room)) (suc-of (l .room) (positive (l .room) e)))))
 
--- ---- theorem A
+-- ---- the master is the Rust
 
 same-by-kind : (chip : Chip) (address : ℕ) (x : Kind) (l : Lent) → NoAddedCause x l → (turns : ℕ) (answers : List ℕ) → length answers < turns
     → callShown (record { chip = chip; address = address; kind = x }) l answers ≡ rustWith turns (record { chip = chip; address = address; kind = x }) l answers

@@ -1,12 +1,11 @@
 -- Document 01's bench example in layers 1 and 2, and pairs of calls of which secrecy speaks, by computation.
 -- Assumes nothing.
 use mathlib.Core.Path.{_≡_, refl}
-use mathlib.Core.Bool.{false, true}
+use mathlib.Core.Bool.{false}
 use mathlib.Core.List.{List, [], _∷_}
 use mathlib.Core.Option.{none, some}
 use Prim.Native.Nat.{ℕ}
 use lib.ListN.{take}
-use Rattle.registers.specs.declared.chip.Chip.{Chip}
 use Rattle.registers.specs.declared.register.Register.{Register}
 use Rattle.registers.specs.declared.register.Register.the-variants.{Ctlr1, Ctlr2, Datar, Star1, Star2}
 use Rattle.registers.specs.Word.{hasBit, putBit, fieldOf, putField}
@@ -14,7 +13,7 @@ use Rattle.registers.specs.Flags.{errorFlags, clearError}
 use Rattle.registers.specs.Addresses.{addressWord}
 use Rattle.access.specs.declared.ending.Error.the-variants.{Nack}
 use Rattle.access.specs.Endings.{done, failed}
-use Rattle.access.specs.Program.{Access, read, write, late, checkTimeout}
+use Rattle.access.specs.Program.{read, write, late, checkTimeout}
 use Rattle.access.specs.Record.{Event, Shown, DifferInPayload, Same, SameStruck}
 use Rattle.operations.specs.declared.operation.Direction.the-variants as direction
 use Rattle.operations.specs.Operations.{operationsOf, shaped}
@@ -25,7 +24,7 @@ use Rattle.master.specs.declared.call.Kind.the-variants as kind
 use Rattle.master.specs.declared.call.Call.{Call}
 use Rattle.master.specs.Rust as rust
 use Rattle.master.specs.Machine.{owed, advance}
-use Rattle.master.specs.Calls.{Lent, Accepted, refusal, spansOf, callShown, rustWith}
+use Rattle.master.specs.Calls.{Lent, refusal, spansOf, callShown, rustWith}
 use Rattle.master.specs.Claims.{Comparable}
 use Rattle.master.proofs.Secret.{master-is-secret}
 

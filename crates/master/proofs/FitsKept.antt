@@ -1,11 +1,10 @@
 -- Steps keep a state that fits, and a call begins with one.
 -- Assumes nothing.
 use mathlib.Core.Path.{_≡_, refl, sym, ap, _∙_, subst}
-use mathlib.Core.Bool.{Bool, true, false, cond, Bool·beq, not, _&&_, _||_, true≢false, false≢true, or-true}
-use mathlib.Core.List.{List, [], _∷_}
+use mathlib.Core.Bool.{Bool, true, false, cond, Bool·beq, not, _&&_, _||_, true≢false}
 use Prim.Native.Nat.{ℕ, zero, suc, pred, _+_, _≤_, _<_}
 use native.Mathlib.Omega.{arith}
-use borrow.Author.Tests.{lt-ltb, le-leb, leb-true, ltb-true, eq-eqb, eqb-true, eqb-false, not-true, not-false}
+use borrow.Author.Tests.{lt-ltb, le-leb, leb-true, ltb-true, eq-eqb, eqb-true, eqb-false, not-true}
 use lib.Dec.{eqb, leb, ltb}
 use Rattle.registers.specs.Word.{hasBit}
 use Rattle.registers.specs.Flags.{errorFlags}
@@ -51,8 +50,8 @@ use Rattle.master.specs.declared.stage.Stage.{Stage}
 use Rattle.master.specs.declared.stage.Stage.the-variants.{Begin, WaitStop, LaunchStart, Wait, Address, SendByte, RecvByte, ReadIter, GenerateStop, Abort, Ended}
 use Rattle.master.specs.declared.state.Progress.{Progress}
 use Rattle.master.specs.declared.state.Move.{Move}
-use Rattle.master.specs.Machine.{Shape, to, saves, savesDivider, savesRise, byteDone, begun, nextRun, next16, fresh, fails, isSet, stopsHere, continues, finished, writeBytes, readBytes, waited, tests, judged, waits, fallen, waitStopFinished, launchStart, addressed, addressPhase, recvByte, blockingReadIter, stopped, generateStop, abortTransfer, begins, advanceAt, beginsAt, runOf, foundRun, advance, startWith, start}
-use Rattle.master.specs.Fits.{counts, untouched, starting, whole, sending, receiving, lastOnes, single, closing, fitsFall, fitsWait, fitsRead, fitsStop, fitsAbort, runs, isOver, fitsAt, fitsNothing, fitsFound, fits}
+use Rattle.master.specs.Machine.{Shape, to, saves, savesDivider, savesRise, byteDone, begun, nextRun, next16, fresh, fails, isSet, stopsHere, continues, finished, writeBytes, readBytes, waited, tests, waits, fallen, waitStopFinished, launchStart, addressed, addressPhase, recvByte, blockingReadIter, generateStop, abortTransfer, begins, advanceAt, beginsAt, foundRun, advance, startWith, start}
+use Rattle.master.specs.Fits.{counts, untouched, starting, whole, sending, receiving, lastOnes, single, closing, fitsFall, fitsWait, fitsRead, fitsStop, fitsAbort, runs, fitsAt, fitsNothing, fitsFound, fits}
 use Rattle.master.proofs.Counts.{next-place, positive, suc-of}
 
 -- what an accepted call's runs are like
@@ -176,11 +175,6 @@ module _ (sh : Shape) (sound : Sound sh) where
         let q = split (g .frame .«send_nack») (eqb (d .left) n && ltb 1 (r .length)) (p .1) in
         let t = split (eqb (d .left) n) (ltb 1 (r .length)) (q .1) in
         (p .0, (q .0, (eqb-true _ _ (t .0), ltb-true 1 (r .length) (t .1))))
-
-    closing-facts : closing g r d ≡ true → (stopsHere g r ≡ true) × (d .left ≡ 0)
-    closing-facts e =
-        let p = split (stopsHere g r) (eqb (d .left) 0) e in
-        (p .0, eqb-true _ _ (p .1))
 
     last-is : (n : ℕ) → d .reading ≡ true → g .frame .«send_nack» ≡ true → d .left ≡ n → 1 < r .length → lastOnes g r n d ≡ true
     last-is n a b c e = both-true a (both-true b (both-true (eq-eqb _ _ c) (lt-ltb 1 (r .length) e)))

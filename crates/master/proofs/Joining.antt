@@ -1,6 +1,6 @@
 -- embedded-hal's joining: a transaction is the program of its runs, each with its bytes joined, however a run is divided.
 -- Assumes nothing.
-use mathlib.Core.Path.{_≡_, refl, sym, ap, _∙_, subst}
+use mathlib.Core.Path.{_≡_, refl, sym, ap, _∙_}
 use mathlib.Core.Bool.{Bool, true, false, cond, _&&_, and-true, and-false}
 use mathlib.Core.List.{List, [], _∷_, _++_, append-nil, append-assoc}
 use Prim.Native.Nat.{ℕ, zero, suc, _+_, _≤_}
@@ -15,11 +15,10 @@ use Rattle.registers.specs.Word.{putBit}
 use Rattle.access.specs.declared.ending.Error.the-variants.{InvalidAddress}
 use Rattle.access.specs.declared.ending.Failure.{Failure}
 use Rattle.access.specs.Endings.{failureOf}
-use Rattle.access.specs.Program.{Program, access, read, write, Blocking, pure, _>>_, forEach}
+use Rattle.access.specs.Program.{Program, access, read, write, Blocking, forEach, _>>_}
 use Rattle.master.specs.declared.call.FrameOptions.the-variants.{FirstAndLastFrame, FirstFrame}
-use Rattle.master.specs.declared.call.Frame.{Frame}
 use Rattle.master.specs.Rust.{Operation, Write, Read, isEmpty, frame, frameOf, validate-address, abort-transfer, wait-stop-finished, send-byte, write-bytes, blocking-read-iter, groupOf, restOf, buffersOf, lengthsOf, sum, write-group, transact}
-use Rattle.master.specs.Joined.{Joined, JW, JR, framed, joinW, joinR, joined, runs-program}
+use Rattle.master.specs.Joined.{JW, JR, framed, joinW, joinR, joined, runs-program}
 
 concat : List (List ℕ) → List ℕ
 concat [] = []

@@ -1,12 +1,12 @@
 -- The runs of a lent list, joined from its operations and the written bytes, and the Rust's verdict on it.
 -- Assumes nothing.
 use mathlib.Core.Path.{_≡_, refl, sym, ap, _∙_}
-use mathlib.Core.Bool.{Bool, true, false, cond, not, _&&_, true≢false}
-use mathlib.Core.List.{List, [], _∷_, _++_, map, append-assoc, append-nil}
+use mathlib.Core.Bool.{Bool, true, false, cond, _&&_, true≢false}
+use mathlib.Core.List.{List, [], _∷_, _++_, map, append-assoc}
 use mathlib.Core.Option.{Option, none, some}
 use Prim.Native.Nat.{ℕ, zero, suc, _+_, _≤_, _<_, _^_}
 use native.Mathlib.Omega.{arith}
-use borrow.Author.Tests.{lt-ltb, le-ltb, eqb-true, eqb-false}
+use borrow.Author.Tests.{lt-ltb, le-ltb}
 use lib.Dec.{eqb, ltb}
 use lib.ListN.{length, take, drop, length-drop, length-append, take-append-drop}
 use lib.Seq.{length-take-le}
@@ -22,7 +22,7 @@ use Rattle.operations.specs.declared.operation.Operation.{Operation}
 use Rattle.operations.specs.Operations.{isRead, wordOf, directionOf, operationOf, emptyRead, operationsOf, shaped}
 use Rattle.operations.specs.Runs.{Span, span, same, runsFrom, runsOf, writtenIn, readIn, writtenSum, readSum}
 use Rattle.operations.specs.Search.{faultFrom}
-use Rattle.operations.proofs.SumLaws.{spanOf, eachSpan}
+use Rattle.operations.proofs.SumLaws.{eachSpan}
 use Rattle.master.specs.Rust as rust
 use Rattle.master.specs.Joined.{Joined, JW, JR, joinW, joinR, joined}
 use Rattle.master.specs.Calls.{cut}

@@ -7,29 +7,27 @@ use Prim.Native.Nat.{ℕ, zero, suc, _+_, _%_, _≤_, _<_}
 use native.Mathlib.Nat.{add-zero, add-suc, suc-add}
 use native.Mathlib.Numerals.{add-one, add-two, add-three}
 use native.Mathlib.Omega.{arith}
-use borrow.Author.Tests.{lt-ltb, ne-eqb, not-false, eqb-true}
+use borrow.Author.Tests.{ne-eqb, not-false, eqb-true}
 use lib.Dec.{eqb, leb, ltb, eqb·suc-zero}
 use lib.ListN.{length, getD, drop}
 use Rattle.registers.specs.declared.register.Register.the-variants.{Ctlr1, Ctlr2, Datar, Star1, Star2, Ckcfgr, Rtr}
 use Rattle.registers.specs.Bits.{PE, START, STOP, ACK, POS, SWRST, SB, ADDR, BTF, RXNE, TXE, MSL}
 use Rattle.registers.specs.Fields.{FREQ}
 use Rattle.registers.specs.Word.{hasBit, putBit, fieldOf, putField}
-use Rattle.registers.specs.Flags.{errorFlags, clearError}
+use Rattle.registers.specs.Flags.{errorFlags}
 use Rattle.registers.specs.Addresses.{addressWord}
 use Rattle.registers.proofs.TransferLaws.{transfer-off}
-use Rattle.access.specs.declared.ending.Error.{Error}
 use Rattle.access.specs.declared.ending.Error.the-variants.{Arbitration, Timeout}
 use Rattle.access.specs.declared.ending.Failure.{Failure}
 use Rattle.access.specs.declared.ending.Ending.the-variants.{Failed}
 use Rattle.access.specs.declared.need.Need.the-variants as need
-use Rattle.access.specs.Endings.{done, failed, failureOf}
-use Rattle.access.specs.Program.{Program, finish, access, keep, read, write, send, clock, spin, late, checkTimeout, forEach}
-use Rattle.access.proofs.Agreement.{Agree, no-answers, weaken, ends, reads-first, reads, writes, asks, sends, keeps, cases, cases-with, both-false, both-true, passes, along, program-is}
+use Rattle.access.specs.Endings.{failureOf}
+use Rattle.access.specs.Program.{Program, finish, access, keep, read, write, clock, spin, late, checkTimeout, forEach}
+use Rattle.access.proofs.Agreement.{Agree, no-answers, weaken, ends, reads-first, reads, writes, asks, sends, keeps, cases, cases-with, both-false, passes, along, program-is}
 use Rattle.errors.specs.declared.Checked.{Checked}
 use Rattle.errors.specs.declared.Checked.the-variants as checked
 use Rattle.errors.specs.Classes.{errorOf, decided}
 use Rattle.errors.proofs.ClassLaws.{by-class, no-flags}
-use Rattle.access.proofs.Choice.{when-true, when-false}
 use Rattle.operations.specs.declared.search.Run.{Run}
 use Rattle.master.specs.declared.call.Frame.{Frame}
 use Rattle.master.specs.declared.stage.Fall.{Fall}
@@ -42,15 +40,12 @@ use Rattle.master.specs.declared.stage.WaitStage.the-variants as wait
 use Rattle.master.specs.declared.stage.AddressStage.the-variants as address
 use Rattle.master.specs.declared.stage.RecvStage.the-variants as recv
 use Rattle.master.specs.declared.stage.ReadStage.the-variants as reading
-use Rattle.master.specs.declared.stage.StopFor.the-variants as stop
-use Rattle.master.specs.declared.stage.Half.the-variants as half
 use Rattle.master.specs.declared.stage.AbortStage.the-variants as abort
-use Rattle.master.specs.declared.stage.Stage.{Stage}
-use Rattle.master.specs.declared.stage.Stage.the-variants.{Begin, WaitStop, LaunchStart, Wait, Address, SendByte, RecvByte, ReadIter, GenerateStop, Abort, Ended}
+use Rattle.master.specs.declared.stage.Stage.the-variants.{Begin, WaitStop, LaunchStart, Wait, Address, RecvByte, ReadIter, Abort, Ended}
 use Rattle.master.specs.declared.state.Progress.{Progress}
 use Rattle.master.specs.declared.state.Move.{Move}
 use Rattle.master.specs.Rust.{generate-stop, finish-transfer, abort-transfer, validate-address, wait-stop-finished, launch-start, check-and-clear-error-flags, wait-flag, send-byte, start-and-address, write-bytes, recv-byte, wait-btf, recv-next, take-next, recv-all, recv-above-3, blocking-read-iter}
-use Rattle.master.specs.Machine.{to, saves, savesDivider, savesRise, endsWith, next16, counted, byteDone, begun, fails, isSet, stopsHere, continues, finished, writeBytes, readBytes, waited, tests, judged, fallen, begins, nextRun, addressed, Shape, runOf, owed, advance, master}
+use Rattle.master.specs.Machine.{to, saves, savesDivider, savesRise, endsWith, counted, begun, fails, isSet, stopsHere, continues, finished, writeBytes, readBytes, waited, tests, fallen, begins, Shape, runOf, owed, advance, master}
 use Rattle.master.proofs.Counts.{next-place}
 
 -- the first of what is left of a list, what follows it, and that it is there

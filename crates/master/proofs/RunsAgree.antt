@@ -1,26 +1,21 @@
 -- The program of joined runs agrees with the machine, from the run that it is in to the end of the call.
 -- Assumes nothing.
 use mathlib.Core.Path.{_≡_, refl, sym, ap, _∙_, subst}
-use mathlib.Core.Bool.{Bool, true, false, cond, not}
+use mathlib.Core.Bool.{Bool, true, false}
 use mathlib.Core.List.{List, [], _∷_, _++_, map}
 use Prim.Native.Nat.{ℕ, zero, suc, _+_, _≤_, _<_}
-use native.Mathlib.Nat.{add-suc, suc-add, add-zero, zero-add}
+use native.Mathlib.Nat.{add-suc, suc-add, add-zero}
 use native.Mathlib.Omega.{arith}
 use lib.Dec.{ltb}
-use lib.ListN.{length, drop, length-append, length-drop}
+use lib.ListN.{length, drop}
 use lib.Seq.{drop-drop, drop-append-seam}
 use Rattle.registers.specs.declared.chip.Chip.{Chip}
-use Rattle.access.specs.declared.ending.Failure.{Failure}
 use Rattle.access.specs.declared.ending.Ending.the-variants.{Failed}
 use Rattle.access.specs.declared.need.Need.the-variants as need
 use Rattle.access.specs.Endings.{done}
 use Rattle.access.specs.Program.{Program, finish}
 use Rattle.access.proofs.Agreement.{Agree, ends, along, program-is}
-use Rattle.operations.specs.declared.operation.Direction.the-variants as direction
-use Rattle.operations.specs.declared.search.Run.{Run}
-use Rattle.operations.specs.declared.search.FoundRun.{FoundRun}
-use Rattle.operations.specs.declared.search.FoundRun.the-variants.{At, Nothing}
-use Rattle.operations.specs.Runs.{Span, span, runAfter, runFrom, runAt, writtenIn, readIn, writtenSum, readSum}
+use Rattle.operations.specs.Runs.{Span, runAfter, runFrom, runAt, writtenIn, readIn, readSum}
 use Rattle.master.specs.declared.call.Setting.{Setting}
 use Rattle.master.specs.declared.stage.Stage.the-variants.{Begin, Ended}
 use Rattle.master.specs.declared.state.Progress.{Progress}
@@ -30,7 +25,7 @@ use Rattle.master.specs.Joined.{Joined, JW, JR, framed, runs-program}
 use Rattle.master.specs.Machine.{Shape, to, saves, counted, begun, nextRun, next16, stopsHere, continues, foundRun, runOf, owed, master}
 use Rattle.master.proofs.Counts.{next-place}
 use Rattle.master.proofs.MasterAgrees.{frameIn, write-bytes-agrees, blocking-read-iter-agrees}
-use Rattle.master.proofs.LentLaws.{spanJ, bytesIn, bytesJ, FilledIn, FilledJ}
+use Rattle.master.proofs.LentLaws.{spanJ, bytesIn, bytesJ, FilledJ}
 
 -- where the machine is before the first of these runs
 abbrev pub resumes : List Joined → Progress → Move

@@ -1,9 +1,9 @@
--- Theorem B for the master: no answer to a payload read leaves a trace in the state, and calls whose runs agree go through the same
+-- The master is secret: no answer to a payload read leaves a trace in the state, and calls whose runs agree go through the same
 -- states, however their runs are divided into operations.
 -- Assumes nothing.
 use mathlib.Core.Path.{_≡_, refl, sym, ap, _∙_, subst}
 use mathlib.Core.List.{List}
-use mathlib.Core.Option.{Option, none}
+use mathlib.Core.Option.{Option}
 use Prim.Native.Nat.{ℕ}
 use lib.ListN.{take}
 use Rattle.access.specs.declared.ending.Error.{Error}
@@ -26,7 +26,7 @@ use Rattle.master.specs.declared.stage.Stage.{Stage}
 use Rattle.master.specs.declared.stage.Stage.the-variants.{Begin, WaitStop, LaunchStart, Wait, Address, SendByte, RecvByte, ReadIter, GenerateStop, Abort, Ended}
 use Rattle.master.specs.declared.state.Progress.{Progress}
 use Rattle.master.specs.Machine.{Shape, advanceAt, owedAt, owed, advance, runOf, master, start}
-use Rattle.master.specs.Calls.{Lent, Accepted, shapeOf, settingOf, spansOf, refusal, seenAfter, callShown}
+use Rattle.master.specs.Calls.{Lent, Accepted, shapeOf, settingOf, seenAfter, callShown}
 use Rattle.master.specs.Claims.{Comparable, MasterIsSecret}
 
 module _ (g : Setting) (r : Run) where

@@ -17,7 +17,7 @@ use Rattle.master.specs.Machine.{advance, start}
 use Rattle.master.specs.Fits.{fits}
 use Rattle.master.specs.Calls.{Lent, NoAddedCause, Accepted, spansOf, shapeOf, callShown, rustWith}
 
--- theorem A: a call without an added cause of refusal shows the Rust's record, end and arrived bytes, after every list of answers
+-- a call without an added cause of refusal shows the Rust's record, end and arrived bytes, after every list of answers
 pub record MasterIsTheRust : Type 0 where
   pub same : (c : Call) (l : Lent) → NoAddedCause (c .kind) l → (turns : ℕ) (answers : List ℕ) → length answers < turns → callShown c l answers ≡ rustWith turns c l answers
   -- an accepted call is one of these
@@ -35,7 +35,7 @@ pub record Comparable (c : Call) (l₁ l₂ : Lent) : Type 0 where
   pub second : Accepted c l₂
   pub runs : spansOf (c .kind) l₁ ≡ spansOf (c .kind) l₂
 
--- theorem B, after begin and after each step
+-- secrecy, after begin and after each step
 pub record MasterIsSecret : Type 0 where
   -- answers that differ only where the first call owes a payload read
   pub hidden : (c : Call) (l₁ l₂ : Lent) → Comparable c l₁ l₂ → (xs ys : List ℕ) → DifferInPayload (callShown c l₁ xs .events) xs ys

@@ -1,5 +1,5 @@
 -- The runs of a transaction with their bytes joined, and their program: START at each, STOP at the last alone.
-use mathlib.Core.Bool.{Bool, true, false}
+use mathlib.Core.Bool.{Bool, true}
 use mathlib.Core.List.{List, [], _∷_, _++_}
 use Prim.Native.Nat.{ℕ, _+_}
 use Rattle.registers.specs.declared.chip.Chip.{Chip}

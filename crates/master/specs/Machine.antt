@@ -1,7 +1,7 @@
 -- Layer 2: the master as a machine. A stage and the progress say which access is owed; an answer leads to the next.
 use mathlib.Core.Bool.{Bool, true, false, cond, not, _&&_, _||_}
-use mathlib.Core.List.{List, [], _∷_}
-use Prim.Native.Nat.{ℕ, zero, suc, pred}
+use mathlib.Core.List.{List}
+use Prim.Native.Nat.{ℕ, suc, pred}
 use lib.Dec.{eqb, leb, ltb}
 use Rattle.registers.specs.declared.chip.Chip.{Chip}
 use Rattle.registers.specs.declared.register.Register.the-variants.{Ctlr1, Ctlr2, Datar, Star1, Star2, Ckcfgr, Rtr}

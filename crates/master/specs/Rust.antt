@@ -1,21 +1,20 @@
 -- Layer 1: the blocking master of src/i2c.rs, one definition for each function, in its order except that callees come first.
 use mathlib.Core.Bool.{Bool, true, false, cond, not, _&&_, _||_}
 use mathlib.Core.List.{List, [], _∷_}
-use Prim.Native.Nat.{ℕ, zero, suc, _+_, _*_, _%_, _^_}
+use Prim.Native.Nat.{ℕ, zero, suc, _+_, _%_, _^_}
 use lib.Dec.{eqb, leb, ltb}
 use lib.ListN.{length}
 use Rattle.registers.specs.declared.chip.Chip.{Chip}
 use Rattle.registers.specs.declared.register.Register.the-variants.{Ctlr1, Ctlr2, Datar, Star1, Star2, Ckcfgr, Rtr}
 use Rattle.registers.specs.Bits.{PE, START, STOP, ACK, POS, SWRST, ITERREN, ITEVTEN, ITBUFEN, DMAEN, LAST, SB, ADDR, BTF, RXNE, TXE, BERR, ARLO, AF, OVR, PECERR, TIMEOUT, MSL}
-use Rattle.registers.specs.Fields.{FREQ, DATA}
+use Rattle.registers.specs.Fields.{FREQ}
 use Rattle.registers.specs.Word.{hasBit, putBit, fieldOf, putField}
 use Rattle.registers.specs.Flags.{errorFlags, clearError}
 use Rattle.registers.specs.Addresses.{addressWord}
 use Rattle.access.specs.declared.ending.Error.{Error}
 use Rattle.access.specs.declared.ending.Error.the-variants.{Bus, Arbitration, Nack, Timeout, Crc, Overrun, BufferTooLong, InvalidAddress}
-use Rattle.access.specs.declared.ending.Failure.{Failure}
 use Rattle.access.specs.Endings.{failureOf}
-use Rattle.access.specs.Program.{Blocking, _>>=_, _>>_, pure, throw, readRegister, writeRegister, modify, sendData, store, if_then_else_, onlyIf, orElse, onDrop, while, forEach, checkTimeout}
+use Rattle.access.specs.Program.{Blocking, pure, throw, readRegister, writeRegister, modify, sendData, store, if_then_else_, onlyIf, orElse, onDrop, while, forEach, checkTimeout, _>>_, _>>=_}
 use Rattle.master.specs.declared.call.FrameOptions.{FrameOptions}
 use Rattle.master.specs.declared.call.FrameOptions.the-variants.{FirstAndLastFrame, FirstFrame, FirstAndNextFrame, NextFrame, LastFrame, LastFrameNoStop}
 use Rattle.master.specs.declared.call.Frame.{Frame}

@@ -1,4 +1,4 @@
-// The master's calls and the states of its machine. The meaning of both is in specs/, and crate `driver` is the code.
+// The master's calls and the states of its machine. The meaning of both is in specs/, and the code is in crates `stages`, `needs`, `standing` and `driver`.
 pub mod call;
 pub mod stage;
 pub mod state;

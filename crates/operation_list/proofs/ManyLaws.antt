@@ -1,7 +1,7 @@
 -- More than 256 operations are refused for their number, whatever they are: the first 257 say as much as all.
 -- Assumes nothing.
 use mathlib.Core.Path.{_≡_, refl, ap, _∙_}
-use mathlib.Core.Bool.{Bool, true, false, cond, not}
+use mathlib.Core.Bool.{Bool, true, false, cond}
 use mathlib.Core.List.{List}
 use mathlib.Core.Option.{Option, some}
 use Prim.Native.Nat.{ℕ, _*_, _≤_, _<_}
@@ -22,7 +22,7 @@ use Rattle.master.specs.declared.state.Progress.{Progress}
 use Rattle.master.specs.declared.state.State.{State}
 use Rattle.master.specs.declared.state.Begun.the-variants.{Refused}
 use Rattle.master.specs.Calls.{lentWith, refuse, refusalBy, refusal}
-use Rattle.master.specs.Steps.{begin, begunWith, fitsLent, step, stepRead, refused}
+use Rattle.master.specs.Steps.{begin, begunWith, fitsLent, step, stepRead}
 use Rattle.images.specs.declared.master_image.MasterFound.{MasterFound}
 use Rattle.images.specs.declared.master_image.MasterFound.the-variants.{At, Nothing}
 use Rattle.images.specs.Numbers.{transactionEntry}

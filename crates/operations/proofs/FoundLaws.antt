@@ -2,7 +2,7 @@
 -- Assumes nothing.
 use Prim.Native.Nat.{ℕ, zero, suc, _+_, _≤_, _<_}
 use mathlib.Core.Path.{_≡_, refl, sym, ap, _∙_, subst}
-use mathlib.Core.Bool.{Bool, true, false, cond, not, true≢false}
+use mathlib.Core.Bool.{Bool, true, false, cond, true≢false}
 use mathlib.Core.List.{List, [], _∷_}
 use native.Mathlib.Omega.{arith}
 use lib.ListN.{length}
@@ -12,7 +12,7 @@ use Rattle.operations.specs.declared.search.Run.{Run}
 use Rattle.operations.specs.declared.search.FoundRun.{FoundRun}
 use Rattle.operations.specs.declared.search.FoundRun.the-variants.{At, Nothing}
 use Rattle.operations.specs.Operations.{isRead}
-use Rattle.operations.specs.Runs.{Span, span, isEmpty, writtenIn, readIn, writtenSum, readSum, runAfter, runFrom}
+use Rattle.operations.specs.Runs.{Span, span, writtenIn, readIn, writtenSum, readSum, runAfter, runFrom}
 
 abbrev run-or : Run → FoundRun → Run
 run-or r (At x) = x

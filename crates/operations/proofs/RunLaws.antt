@@ -1,8 +1,8 @@
 -- Runs of what follows an open stretch.
 -- Assumes nothing.
 use Prim.Native.Nat.{ℕ, zero, suc, _+_, _*_, _≤_}
-use mathlib.Core.Path.{_≡_, refl, sym, ap, _∙_}
-use mathlib.Core.Bool.{Bool, true, false, cond, not}
+use mathlib.Core.Path.{_≡_, refl}
+use mathlib.Core.Bool.{Bool, true, false, cond}
 use mathlib.Core.List.{List, [], _∷_}
 use native.Mathlib.Nat.{zero-add}
 use native.Mathlib.Omega.{arith}
@@ -11,7 +11,7 @@ use Rattle.operations.specs.declared.operation.Direction.{Direction}
 use Rattle.operations.specs.declared.operation.Direction.the-variants.{Write, Read}
 use Rattle.operations.specs.declared.operation.Operation.{Operation}
 use Rattle.operations.specs.Operations.{directionOf, operationsOf}
-use Rattle.operations.specs.Runs.{Span, span, same, runsFrom, runsOf, isEmpty}
+use Rattle.operations.specs.Runs.{span, same, runsFrom, runsOf, isEmpty}
 
 pub same-self : (d : Direction) → same d d ≡ true
 same-self Write = refl

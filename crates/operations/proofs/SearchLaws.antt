@@ -1,11 +1,11 @@
 -- What holds at each place of the search: between two runs, and within one.
 -- Assumes nothing.
-use Prim.Native.Nat.{ℕ, zero, suc, _+_, _-_, _≤_, _<_}
+use Prim.Native.Nat.{ℕ, _+_, _-_, _≤_, _<_}
 use mathlib.Core.Path.{_≡_, refl, sym, ap, _∙_, subst}
-use mathlib.Core.Bool.{Bool, true, false, cond, not}
+use mathlib.Core.Bool.{false, not}
 use mathlib.Core.List.{List, [], _∷_}
-use mathlib.Core.Logic.{_⊎_, inl, inr, ⊎-elim}
-use mathlib.Core.Option.{Option, none, some}
+use mathlib.Core.Logic.{_⊎_, ⊎-elim}
+use mathlib.Core.Option.{none, some}
 use native.Mathlib.Nat.{sub-self, zero-add}
 use native.Mathlib.Omega.{arith}
 use borrow.Author.Tests.{le-leb, lt-leb}
@@ -15,12 +15,10 @@ use Rattle.access.specs.declared.ending.Error.{Error}
 use Rattle.operations.specs.declared.operation.Direction.{Direction}
 use Rattle.operations.specs.declared.operation.Direction.the-variants.{Write, Read}
 use Rattle.operations.specs.declared.operation.Operation.{Operation}
-use Rattle.operations.specs.declared.search.FoundRun.{FoundRun}
-use Rattle.operations.specs.declared.search.Searched.{Searched}
 use Rattle.operations.specs.declared.search.Searched.the-variants.{Refused, Passed}
 use Rattle.operations.specs.declared.search.Tally.{Tally}
 use Rattle.operations.specs.Operations.{directionOf, emptyRead, operationAt, operationsOf}
-use Rattle.operations.specs.Runs.{Span, span, writtenIn, readIn, runsFrom, runsOf, isEmpty, sumsOf, runAt}
+use Rattle.operations.specs.Runs.{span, writtenIn, readIn, runsFrom, runsOf, isEmpty, sumsOf, runAt}
 use Rattle.operations.specs.Tally.{passed, passedAll, nonePassed}
 use Rattle.operations.specs.Search.{faultFrom, verdictAt, validateOperations}
 use Rattle.operations.proofs.ListLaws.{no-operation, no-fault, operation-first, fault-next, direction-small}

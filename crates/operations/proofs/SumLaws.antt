@@ -1,20 +1,19 @@
 -- What the runs of a list write and read is what its operations write and read; without a fault it is 65,535 at most.
 -- Assumes nothing.
 use Prim.Native.Nat.{ℕ, _+_, _≤_}
-use mathlib.Core.Path.{_≡_, refl, sym, ap, _∙_}
+use mathlib.Core.Path.{_≡_, refl, ap, _∙_}
 use mathlib.Core.Bool.{Bool, true, false, cond}
 use mathlib.Core.List.{List, [], _∷_}
-use mathlib.Core.Option.{Option, none, some}
+use mathlib.Core.Option.{none, some}
 use native.Mathlib.Nat.{add-assoc}
 use native.Mathlib.Omega.{arith}
 use borrow.Author.Tests.{ltb-false}
 use lib.Dec.{ltb}
-use Rattle.access.specs.declared.ending.Error.{Error}
 use Rattle.access.specs.declared.ending.Error.the-variants.{Overrun, BufferTooLong, InvalidArgument}
 use Rattle.operations.specs.declared.operation.Direction.{Direction}
 use Rattle.operations.specs.declared.operation.Direction.the-variants.{Write, Read}
 use Rattle.operations.specs.declared.operation.Operation.{Operation}
-use Rattle.operations.specs.Operations.{wordOf, directionOf, operationOf, emptyRead, operationsOf}
+use Rattle.operations.specs.Operations.{wordOf, operationOf, emptyRead, operationsOf}
 use Rattle.operations.specs.Runs.{Span, span, same, runsFrom, runsOf, writtenIn, readIn, sumOf, writtenSum, readSum}
 use Rattle.operations.specs.Search.{faultFrom}
 

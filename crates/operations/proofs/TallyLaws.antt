@@ -1,17 +1,17 @@
 -- When all runs are passed, the tally has their sums and the run that was asked for.
 -- Assumes nothing.
-use Prim.Native.Nat.{ℕ, zero, suc, pred, _+_}
+use Prim.Native.Nat.{ℕ, zero, suc, _+_}
 use mathlib.Core.Path.{_≡_, refl, sym, ap, _∙_}
-use mathlib.Core.Bool.{Bool, true, false, cond, not}
+use mathlib.Core.Bool.{Bool, cond, not}
 use mathlib.Core.List.{List, [], _∷_}
-use native.Mathlib.Nat.{add-assoc, add-zero, zero-add}
+use native.Mathlib.Nat.{add-assoc, add-zero}
 use native.Mathlib.Numerals.{add-one}
-use lib.Dec.{eqb, eqb·suc-suc, eqb·suc-zero, eqb·zero-suc}
+use lib.Dec.{eqb·suc-suc, eqb·suc-zero}
 use Rattle.operations.specs.declared.search.FoundRun.{FoundRun}
 use Rattle.operations.specs.declared.search.FoundRun.the-variants.{At, Nothing}
 use Rattle.operations.specs.declared.search.Tally.{Tally}
 use Rattle.operations.specs.Runs.{Span, writtenIn, readIn, writtenSum, readSum, isEmpty, runAfter, runFrom, runAt}
-use Rattle.operations.specs.Tally.{foundWith, passed, passedAll, nonePassed}
+use Rattle.operations.specs.Tally.{passed, passedAll, nonePassed}
 
 pub all-written : (t : Tally) (ss : List Span) → passedAll t ss .written ≡ t .written + writtenSum ss
 unfolding passedAll

@@ -1,9 +1,8 @@
 -- What the runs passed so far come to: the search goes over a list's runs with this.
-use Prim.Native.Nat.{ℕ, suc, pred, _+_}
+use Prim.Native.Nat.{ℕ, pred, _+_}
 use mathlib.Core.Bool.{Bool, cond, not}
 use mathlib.Core.List.{List, [], _∷_}
 use lib.Dec.{eqb}
-use Rattle.operations.specs.declared.search.Run.{Run}
 use Rattle.operations.specs.declared.search.FoundRun.{FoundRun}
 use Rattle.operations.specs.declared.search.FoundRun.the-variants.{At, Nothing}
 use Rattle.operations.specs.declared.search.Tally.{Tally}

@@ -1,7 +1,7 @@
 -- Laws of a word's fields and bits: what is written is read back, all else stays, and a word stays a word.
 -- Assumes nothing.
-use Prim.Native.Nat.{ℕ, suc, _+_, _-_, _*_, _/_, _%_, _^_, _<_, _≤_}
-use mathlib.Core.Path.{_≡_, refl, sym, ap, _∙_, subst}
+use Prim.Native.Nat.{ℕ, _+_, _-_, _*_, _/_, _%_, _^_, _<_, _≤_}
+use mathlib.Core.Path.{_≡_, sym, ap, _∙_, subst}
 use mathlib.Core.Bool.{Bool, true, false, cond}
 use native.Mathlib.Nat.{add-mul, one-mul, mul-assoc, mul-comm, zero-mod, zero-mul, le-refl, mod-lt, mod-le, div-mul-le-self, mul-le-mul-right, le-trans, div-lt-iff-lt-mul}
 use native.Mathlib.Omega.{arith}

@@ -1,12 +1,11 @@
 -- Demand 3 holds.
 -- Assumes nothing.
-use mathlib.Core.Path.{_≡_, sym, subst}
+use mathlib.Core.Path.{_≡_, subst}
 use mathlib.Core.List.{List}
 use Prim.Native.Nat.{ℕ, _<_, _≤_}
 use native.Mathlib.Omega.{arith}
 use lib.ListN.{length, take, length-take}
 use Rattle.registers.specs.declared.chip.Chip.{Chip}
-use Rattle.access.specs.Record.{Shown, Same}
 use Rattle.master.specs.declared.call.Call.{Call}
 use Rattle.master.specs.Calls.{Lent, callShown, rustWith, Accepted}
 use Rattle.master.proofs.CallAgrees.{master-is-the-rust}
@@ -17,7 +16,7 @@ use Rattle.slave.specs.Calls as slave
 use Rattle.slave.specs.Calls.{SlaveLent, slaveShown, rustSlave}
 use Rattle.slave.proofs.CallAgrees.{slave-is-the-rust}
 use Rattle.slave.proofs.Secret.{slave-is-secret}
-use Rattle.secrecy.specs.Demand3.{SeenAlike, Demand3}
+use Rattle.secrecy.specs.Demand3.{Demand3}
 
 -- no more answers than before
 taken-fewer : (i : ℕ) (xs : List ℕ) (turns : ℕ) → length xs < turns → length (take i xs) < turns

@@ -1,26 +1,24 @@
--- Theorem A for the slave: `init_slave`, listen and the two responders.
+-- The calls of the slave show what the Rust shows: `init_slave`, listen and the two responders.
 -- Assumes nothing.
 use mathlib.Core.Path.{_≡_, refl, sym, ap, _∙_}
-use mathlib.Core.Bool.{Bool, true, false, cond, not, _&&_, _||_, or-true, or-false}
+use mathlib.Core.Bool.{Bool, true, false, cond, _||_, or-true, or-false}
 use mathlib.Core.List.{List, []}
-use mathlib.Core.Option.{Option, none, some}
-use Prim.Native.Nat.{ℕ, _≤_, _<_}
+use mathlib.Core.Option.{none, some}
+use Prim.Native.Nat.{ℕ, _<_}
 use borrow.Author.Tests.{le-ltb}
 use lib.Dec.{ltb}
 use lib.ListN.{length}
 use Rattle.registers.specs.declared.chip.Chip.{Chip}
 use Rattle.registers.specs.declared.register.Register.the-variants.{Oaddr1, Oaddr2}
-use Rattle.registers.specs.Bits.{ENDUAL}
 use Rattle.registers.specs.Word.{putBit}
 use Rattle.registers.proofs.AddressLaws.{seven-fields, ten-fields, second-fields}
-use Rattle.access.specs.declared.ending.Error.{Error}
 use Rattle.access.specs.declared.ending.Error.the-variants.{InvalidAddress, BufferTooLong}
 use Rattle.access.specs.declared.ending.Failure.{Failure}
 use Rattle.access.specs.declared.ending.Ending.the-variants.{Failed}
 use Rattle.access.specs.declared.need.Need.the-variants as need
 use Rattle.access.specs.Endings.{done, failureOf}
 use Rattle.access.specs.Program.{Program, finish}
-use Rattle.access.specs.Record.{Shown, shownOf}
+use Rattle.access.specs.Record.{shownOf}
 use Rattle.access.specs.Machine.{shownFrom}
 use Rattle.access.proofs.Agreement.{Agree, ends, reads, writes}
 use Rattle.slave.specs.declared.config.SlaveAddress.{SlaveAddress}
@@ -31,9 +29,9 @@ use Rattle.slave.specs.declared.config.SlaveConfig.{SlaveConfig}
 use Rattle.slave.specs.declared.state.Kind.{Kind}
 use Rattle.slave.specs.declared.state.Kind.the-variants.{Listen, RespondToWrite, RespondToRead}
 use Rattle.slave.specs.Rust as rust
-use Rattle.slave.specs.Init.{ownFault, secondFault, configFault, initRefusal, ownWord, secondWord, owed, advance, initMachine, started}
+use Rattle.slave.specs.Init.{ownFault, secondFault, configFault, ownWord, secondWord, owed, advance, initMachine, started}
 use Rattle.slave.specs.Machine.{fresh, slave, start}
-use Rattle.slave.specs.Calls.{seenAfter, initShown, rustInit, SlaveLent, sizeOf, sizeRefusal, settingOf, bytesOf, slaveShown, rustProgram, rustSlave, Accepted}
+use Rattle.slave.specs.Calls.{seenAfter, initShown, rustInit, SlaveLent, sizeOf, settingOf, bytesOf, slaveShown, rustProgram, rustSlave, Accepted}
 use Rattle.slave.specs.Claims.{SlaveIsTheRust}
 use Rattle.slave.proofs.SlaveAgrees.{blocking-listen-agrees, blocking-respond-to-write-agrees, blocking-respond-to-read-agrees}
 

@@ -4,18 +4,17 @@ use mathlib.Core.Path.{_≡_, refl}
 use mathlib.Core.Bool.{false}
 use mathlib.Core.List.{List, [], _∷_}
 use mathlib.Core.Option.{some}
-use Prim.Native.Nat.{ℕ, _≤_}
+use Prim.Native.Nat.{ℕ}
 use native.Mathlib.Omega.{arith}
 use lib.ListN.{take}
 use Rattle.registers.specs.declared.chip.Chip.{Chip}
-use Rattle.registers.specs.Word.{hasBit, putBit, fieldOf, putField}
-use Rattle.registers.specs.Flags.{errorFlags, clearError}
-use Rattle.registers.specs.Addresses.{ownSeven, ownTen, secondAddress}
+use Rattle.registers.specs.Word.{hasBit, fieldOf}
+use Rattle.registers.specs.Flags.{errorFlags}
+use Rattle.registers.specs.Addresses.{ownTen}
 use Rattle.access.specs.Endings.{returned}
-use Rattle.access.specs.Program.{late, checkTimeout}
+use Rattle.access.specs.Program.{late}
 use Rattle.access.specs.Record.{DifferInPayload, Same, SameStruck}
 use Rattle.access.specs.Edges.{EdgesHold}
-use Rattle.errors.specs.Classes.{errorOf}
 use Rattle.slave.specs.declared.state.Kind.the-variants.{Listen, RespondToWrite, RespondToRead}
 use Rattle.slave.specs.Rust as rust
 use Rattle.slave.specs.Init.{configFault}

@@ -1,13 +1,13 @@
 -- Steps keep a state that fits, and a call begins with one.
 -- Assumes nothing.
-use mathlib.Core.Path.{_≡_, refl, sym, ap, _∙_, subst}
+use mathlib.Core.Path.{_≡_, refl, sym}
 use mathlib.Core.Bool.{Bool, true, false, cond, not, _&&_, _||_, true≢false}
-use Prim.Native.Nat.{ℕ, suc, pred, _+_, _*_, _/_, _%_, _^_, _≤_, _<_}
+use Prim.Native.Nat.{ℕ, suc, pred, _+_, _*_, _≤_, _<_}
 use native.Mathlib.Omega.{arith}
-use borrow.Author.Tests.{lt-ltb, le-leb, leb-true, ltb-true, ltb-false, leb-false, eq-eqb}
+use borrow.Author.Tests.{lt-ltb, le-leb, leb-true, ltb-true, eq-eqb}
 use lib.Dec.{eqb, leb, ltb}
 use Rattle.registers.specs.declared.chip.Chip.{Chip}
-use Rattle.registers.specs.Bits.{ADDMODE, ADDR, STOPF, RXNE, TXE, AF, MSL, BUSY, TRA, GENCALL, DUALF}
+use Rattle.registers.specs.Bits.{ADDMODE, ADDR, STOPF, RXNE, TXE, AF, MSL, BUSY, GENCALL, DUALF}
 use Rattle.registers.specs.Fields.{«ADD9_0», «ADD7_1», ADD2}
 use Rattle.registers.specs.Word.{hasBit, fieldOf}
 use Rattle.registers.specs.Flags.{errorFlags}
@@ -21,7 +21,6 @@ use Rattle.errors.specs.declared.Checked.the-variants as checked
 use Rattle.errors.specs.Classes.{errorOf, decided}
 use Rattle.errors.proofs.ClassLaws.{class-met}
 use Rattle.slave.specs.declared.config.SlaveAddress.{SlaveAddress}
-use Rattle.slave.specs.declared.config.SlaveAddress.the-variants.{SevenBit, TenBit}
 use Rattle.slave.specs.declared.command.SlaveCommandKind.{SlaveCommandKind}
 use Rattle.slave.specs.declared.command.SlaveCommandKind.the-variants.{GeneralCall, Read, Write}
 use Rattle.slave.specs.declared.stage.StopfFor.the-variants as stopf
@@ -40,9 +39,9 @@ use Rattle.slave.specs.declared.state.Kind.the-variants.{Listen, Respond
 use Rattle.slave.specs.declared.state.Setting.{Setting}
 use Rattle.slave.specs.declared.state.Progress.{Progress}
 use Rattle.slave.specs.declared.state.Move.{Move}
-use Rattle.slave.specs.Numbers.{kindNumber, addressNumber, commandNumber}
+use Rattle.slave.specs.Numbers.{kindNumber, addressNumber}
 use Rattle.slave.specs.Machine.{to, saves, fails, kindOf, ownAddress, slaveHandleErrors, takenOff, leftover, polls, decodeSlaveAddress, advanceAt, advance, start}
-use Rattle.slave.specs.Fits.{limit, isListen, counts, runs, returns, closes, isOver, fitsAt, fits}
+use Rattle.slave.specs.Fits.{isListen, counts, runs, returns, closes, isOver, fitsAt, fits}
 use Rattle.slave.specs.Claims.{StatesFit}
 
 -- ---- a command is below 12,288

@@ -1,25 +1,22 @@
--- Theorem B for the slave. Receives of one length go through the same states. Replies of any lengths go through states that differ
+-- The slave is secret. Receives of one length go through the same states. Replies of any lengths go through states that differ
 -- in counts and ends alone, and neither shows in a struck record.
 -- Assumes nothing.
 use mathlib.Core.Path.{_≡_, refl, sym, ap, _∙_, subst}
 use mathlib.Core.Bool.{Bool, true, false, cond, not, _&&_}
-use mathlib.Core.List.{List, [], _∷_}
-use mathlib.Core.Option.{none, some}
+use mathlib.Core.List.{List, []}
 use Prim.Native.Nat.{ℕ, _≤_}
-use lib.Dec.{eqb, leb, ltb}
+use lib.Dec.{eqb, ltb}
 use lib.ListN.{length, take}
 use Rattle.registers.specs.declared.chip.Chip.{Chip}
 use Rattle.registers.specs.declared.register.Register.the-variants.{Ctlr1, Ctlr2, Oaddr1, Oaddr2, Star1, Star2}
-use Rattle.registers.specs.Bits.{ADDR, STOPF, RXNE, TXE, AF, MSL, BUSY, GENCALL, DUALF}
+use Rattle.registers.specs.Bits.{ADDR, STOPF, TXE, AF, MSL, BUSY, GENCALL, DUALF}
 use Rattle.registers.specs.Word.{hasBit}
 use Rattle.registers.specs.Flags.{errorFlags}
-use Rattle.access.specs.declared.ending.Error.the-variants.{Timeout}
 use Rattle.access.specs.declared.ending.Ending.{Ending}
-use Rattle.access.specs.declared.need.Need.{Need}
 use Rattle.access.specs.declared.need.Need.the-variants as need
 use Rattle.access.specs.Endings.{failureOf}
 use Rattle.access.specs.Program.{late}
-use Rattle.access.specs.Record.{Event, Shown, payloadRead, EqualUnless, DifferInPayload, Same, SameStruck}
+use Rattle.access.specs.Record.{Shown, EqualUnless, DifferInPayload, Same, SameStruck}
 use Rattle.access.specs.Machine.{shownFrom}
 use Rattle.access.proofs.Secrecy.{Blind, payloadNeed, SameNeed, reads, writes, clocks, sends, keeps, keeps-drops, drops-keeps, drops, ends, Kept, blind-kept, secrecy, same-payload, same-answers}
 use Rattle.errors.specs.declared.Checked.{Checked}
@@ -183,7 +180,7 @@ module _ (chip : Chip) (m n : ℕ) where
   reply-kept : Kept Any (slave (reply m)) (slave (reply n)) SamePoint
   reply-kept = record { needs = same-needs; moves = same-moves }
 
--- ---- theorem B
+-- ---- the slave is secret
 
 determined : (chip : Chip) (l₁ l₂ : SlaveLent) → l₁ .room ≡ l₂ .room → (answers : List ℕ) → slaveShown chip RespondToWrite l₁ answers ≡ slaveShown chip RespondToWrite l₂ answers
 unfolding slaveShown

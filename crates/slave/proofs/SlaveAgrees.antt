@@ -1,33 +1,30 @@
 -- Each function of the Rust's slave agrees with its stages of the machine.
 -- Assumes nothing.
-use mathlib.Core.Path.{_≡_, refl, sym, ap, _∙_, subst}
+use mathlib.Core.Path.{_≡_, refl, sym, ap, _∙_}
 use mathlib.Core.Bool.{Bool, true, false, cond, not, _&&_}
-use mathlib.Core.List.{List, []}
-use Prim.Native.Nat.{ℕ, zero, suc, pred, _%_}
+use mathlib.Core.List.{List}
+use Prim.Native.Nat.{ℕ, zero, suc, _%_}
 use borrow.Author.Tests.{eqb-true, not-false}
-use lib.Dec.{eqb, leb, ltb}
+use lib.Dec.{eqb, ltb}
 use lib.ListN.{length, getD}
-use Rattle.registers.specs.declared.chip.Chip.{Chip}
-use Rattle.registers.specs.declared.register.Register.the-variants.{Ctlr1, Ctlr2, Oaddr1, Oaddr2, Datar, Star1, Star2}
+use Rattle.registers.specs.declared.register.Register.the-variants.{Ctlr1, Ctlr2, Datar, Star1, Star2}
 use Rattle.registers.specs.Bits.{ACK, ITBUFEN, ADDMODE, ADDR, STOPF, RXNE, TXE, AF, MSL, BUSY, GENCALL, DUALF}
 use Rattle.registers.specs.Fields.{«ADD9_0», «ADD7_1», ADD2}
 use Rattle.registers.specs.Word.{hasBit, putBit, fieldOf}
-use Rattle.registers.specs.Flags.{errorFlags, clearError}
+use Rattle.registers.specs.Flags.{errorFlags}
 use Rattle.registers.proofs.TransferLaws.{slave-transfer-off}
 use Rattle.registers.proofs.AddressLaws.{ten-read}
 use Rattle.access.specs.declared.ending.Error.the-variants.{Timeout}
 use Rattle.access.specs.declared.ending.Failure.{Failure}
-use Rattle.access.specs.declared.ending.Ending.{Ending}
 use Rattle.access.specs.declared.ending.Ending.the-variants.{Failed}
 use Rattle.access.specs.declared.need.Need.the-variants as need
-use Rattle.access.specs.Endings.{done, returned, failureOf}
-use Rattle.access.specs.Program.{Program, finish, access, keep, read, write, send, clock, spinFrom, Turn, continue, return, turned, late, checkTimeout}
-use Rattle.access.proofs.Agreement.{Agree, no-answers, weaken, ends, reads-first, reads, writes, asks, sends, drops, keeps, cases, cases-with, along, program-is}
+use Rattle.access.specs.Endings.{returned, failureOf}
+use Rattle.access.specs.Program.{Program, finish, access, keep, read, write, send, clock, spinFrom, late, checkTimeout}
+use Rattle.access.proofs.Agreement.{Agree, no-answers, ends, reads-first, reads, writes, asks, sends, drops, keeps, cases, cases-with, along, program-is}
 use Rattle.errors.specs.declared.Checked.{Checked}
 use Rattle.errors.specs.declared.Checked.the-variants as checked
 use Rattle.errors.specs.Classes.{errorOf, decided}
 use Rattle.errors.proofs.ClassLaws.{by-class, no-flags}
-use Rattle.slave.specs.declared.config.SlaveAddress.{SlaveAddress}
 use Rattle.slave.specs.declared.config.SlaveAddress.the-variants.{SevenBit, TenBit}
 use Rattle.slave.specs.declared.command.SlaveCommandKind.{SlaveCommandKind}
 use Rattle.slave.specs.declared.command.SlaveCommandKind.the-variants.{GeneralCall}
@@ -35,19 +32,18 @@ use Rattle.slave.specs.declared.command.SlaveCommand.{SlaveCommand}
 use Rattle.slave.specs.declared.stage.StopfFor.{StopfFor}
 use Rattle.slave.specs.declared.stage.StopfFor.the-variants as stopf
 use Rattle.slave.specs.declared.stage.StopfStage.the-variants as clearing
-use Rattle.slave.specs.declared.stage.StaleStage.the-variants as stale
 use Rattle.slave.specs.declared.stage.ArmStage.the-variants as arm
 use Rattle.slave.specs.declared.stage.MatchStage.the-variants as matching
 use Rattle.slave.specs.declared.stage.Half.the-variants as half
 use Rattle.slave.specs.declared.stage.ErrorStage.the-variants as errors
-use Rattle.slave.specs.declared.stage.Stage.the-variants.{ClearStopf, Stale, Arm, Poll, Match, Receive, Send, ClearAf, Errors, Ended}
+use Rattle.slave.specs.declared.stage.Stage.the-variants.{ClearStopf, Arm, Poll, Match, Receive, ClearAf, Errors, Ended}
 use Rattle.slave.specs.declared.state.Kind.the-variants.{Listen, RespondToWrite, RespondToRead}
 use Rattle.slave.specs.declared.state.Setting.{Setting}
 use Rattle.slave.specs.declared.state.Progress.{Progress}
 use Rattle.slave.specs.declared.state.Move.{Move}
 use Rattle.slave.specs.Rust as rust
 use Rattle.slave.specs.Numbers.{commandNumber, statusNumber}
-use Rattle.slave.specs.Machine.{to, saves, counted, endsWith, fails, clearStopf, slaveHandleErrors, commanded, kindOf, ownAddress, leftover, takenOff, polls, owed, advance, slave}
+use Rattle.slave.specs.Machine.{to, saves, counted, fails, clearStopf, slaveHandleErrors, commanded, kindOf, ownAddress, leftover, takenOff, polls, owed, advance, slave}
 use Rattle.slave.proofs.CountLaws.{capped, capped-zero, capped-next, capped-byte, capped-left, capped-taken}
 
 module _ (g : Setting) (bytes : List ℕ) where

@@ -6,17 +6,17 @@ use Prim.Native.Nat.{ℕ, _<_}
 use lib.ListN.{length, take}
 use Rattle.registers.specs.declared.chip.Chip.{Chip}
 use Rattle.access.specs.declared.ending.Ending.{Ending}
-use Rattle.access.specs.Record.{Shown, DifferInPayload, Same, SameStruck}
+use Rattle.access.specs.Record.{DifferInPayload, Same, SameStruck}
 use Rattle.slave.specs.declared.config.SlaveConfig.{SlaveConfig}
 use Rattle.slave.specs.declared.state.Kind.{Kind}
-use Rattle.slave.specs.declared.state.Kind.the-variants.{Listen, RespondToWrite, RespondToRead}
+use Rattle.slave.specs.declared.state.Kind.the-variants.{RespondToWrite, RespondToRead}
 use Rattle.slave.specs.declared.state.Setting.{Setting}
 use Rattle.slave.specs.declared.state.Move.{Move}
 use Rattle.slave.specs.Machine.{advance, start}
 use Rattle.slave.specs.Fits.{fits}
 use Rattle.slave.specs.Calls.{SlaveLent, Accepted, initShown, rustInit, slaveShown, rustSlave}
 
--- theorem A: every configuration, and every call without an added cause of refusal, shows the Rust's record, end and arrived bytes
+-- every configuration, and every call without an added cause of refusal, shows the Rust's record, end and arrived bytes
 pub record SlaveIsTheRust : Type 0 where
   pub init : (c : SlaveConfig) (turns : ℕ) (answers : List ℕ) → length answers < turns → initShown c answers ≡ rustInit turns c answers
   pub same : (chip : Chip) (x : Kind) (l : SlaveLent) → Accepted x l → (turns : ℕ) (answers : List ℕ) → length answers < turns
@@ -26,7 +26,7 @@ pub record SlaveIsTheRust : Type 0 where
 abbrev pub Any : Ending → Ending → Type 0
 Any e f = Unit {0}
 
--- theorem B, after begin and after each step
+-- secrecy, after begin and after each step
 pub record SlaveIsSecret : Type 0 where
   -- two receives of one chip and buffer length, answers that differ only where the first owes a payload read
   pub received : (chip : Chip) (l₁ l₂ : SlaveLent) → Accepted RespondToWrite l₁ → l₁ .room ≡ l₂ .room → (xs ys : List ℕ)

@@ -6,7 +6,6 @@ use Prim.Native.Nat.{ℕ}
 use Rattle.access.specs.declared.ending.Error.{Error}
 use Rattle.access.specs.Endings.{errorNumber}
 use Rattle.access.specs.Edges.{Edge}
-use Rattle.slave.specs.declared.config.SlaveAddress.{SlaveAddress}
 use Rattle.slave.specs.declared.config.SlaveAddress.the-variants.{SevenBit, TenBit}
 use Rattle.slave.specs.declared.config.SecondAddress.the-variants.{Nothing}
 use Rattle.slave.specs.declared.config.SlaveConfig.{SlaveConfig}

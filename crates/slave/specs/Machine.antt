@@ -1,10 +1,9 @@
 -- Layer 2: listen and the two responders as one machine. Each turn of their loops begins at `Poll`.
-use mathlib.Core.Bool.{Bool, true, false, cond, not, _&&_, _||_}
-use mathlib.Core.List.{List, [], _∷_}
-use Prim.Native.Nat.{ℕ, zero, suc, pred, _+_, _*_, _-_}
+use mathlib.Core.Bool.{true, false, cond, not, _&&_}
+use Prim.Native.Nat.{ℕ, suc, pred, _-_}
 use lib.Dec.{eqb, leb, ltb}
 use Rattle.registers.specs.declared.chip.Chip.{Chip}
-use Rattle.registers.specs.declared.register.Register.the-variants.{Ctlr1, Ctlr2, Oaddr1, Oaddr2, Datar, Star1, Star2}
+use Rattle.registers.specs.declared.register.Register.the-variants.{Ctlr1, Ctlr2, Oaddr1, Oaddr2, Star1, Star2}
 use Rattle.registers.specs.Bits.{STOP, ACK, ITBUFEN, ADDMODE, ADDR, STOPF, RXNE, TXE, AF, MSL, BUSY, TRA, GENCALL, DUALF}
 use Rattle.registers.specs.Fields.{«SLAVE_TRANSFER», «ADD7_1», «ADD9_0», ADD2}
 use Rattle.registers.specs.Word.{hasBit, putBit, fieldOf, putField}

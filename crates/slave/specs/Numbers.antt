@@ -1,7 +1,5 @@
 -- What C sees of what a slave call returns: the command, and the bytes left over.
-use mathlib.Core.Bool.{Bool, cond}
-use Prim.Native.Nat.{ℕ, _+_, _*_, _-_, min}
-use lib.Dec.{leb}
+use Prim.Native.Nat.{ℕ, _+_, _*_}
 use Rattle.slave.specs.declared.config.SlaveAddress.{SlaveAddress}
 use Rattle.slave.specs.declared.config.SlaveAddress.the-variants.{SevenBit, TenBit}
 use Rattle.slave.specs.declared.command.SlaveCommandKind.{SlaveCommandKind}

@@ -1,7 +1,7 @@
 -- Layer 1: the blocking slave of src/i2c.rs and src/i2c/slave.rs, one definition for each function, callees first.
 use mathlib.Core.Bool.{Bool, true, false, cond, not, _&&_, _||_}
-use mathlib.Core.List.{List, [], _∷_}
-use Prim.Native.Nat.{ℕ, zero, suc, pred, _+_, _-_, _*_, _/_, _%_, min}
+use mathlib.Core.List.{List}
+use Prim.Native.Nat.{ℕ, suc, pred, _+_, _-_, _*_, _/_, _%_, min}
 use lib.Dec.{eqb, leb, ltb}
 use lib.ListN.{length, getD}
 use Rattle.registers.specs.declared.chip.Chip.{Chip}
@@ -13,7 +13,7 @@ use Rattle.registers.specs.Flags.{errorFlags, clearError}
 use Rattle.access.specs.declared.ending.Error.{Error}
 use Rattle.access.specs.declared.ending.Error.the-variants.{Bus, Arbitration, Timeout, Crc, Overrun, InvalidAddress}
 use Rattle.access.specs.Endings.{failureOf}
-use Rattle.access.specs.Program.{Blocking, _>>=_, _>>_, pure, throw, readRegister, writeRegister, modify, sendData, store, if_then_else_, onlyIf, onDrop, Turn, continue, return, loop, checkTimeout}
+use Rattle.access.specs.Program.{Blocking, pure, throw, readRegister, writeRegister, modify, sendData, store, if_then_else_, onlyIf, onDrop, continue, return, loop, checkTimeout, _>>_, _>>=_}
 use Rattle.slave.specs.declared.config.SlaveAddress.{SlaveAddress}
 use Rattle.slave.specs.declared.config.SlaveAddress.the-variants.{SevenBit, TenBit}
 use Rattle.slave.specs.declared.config.SecondAddress.{SecondAddress}

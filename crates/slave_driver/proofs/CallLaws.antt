@@ -40,11 +40,10 @@ use Rattle.slave.specs.declared.state.Setting.{Setting}
 use Rattle.slave.specs.declared.state.Progress.{Progress}
 use Rattle.slave.specs.declared.state.Move.{Move}
 use Rattle.slave.specs.declared.state.State.{State}
-use Rattle.slave.specs.Machine.{start, owedStopf, owedStale, owedArm, owedMatch, owedReceive, owedAf, owedErrors, owedAbort, owedAt, advanceAt}
+use Rattle.slave.specs.Machine.{start, owedStopf, owedStale, owedArm, owedMatch, owedReceive, owedAf, owedErrors, owedAbort, advanceAt}
 use Rattle.slave.specs.Fits.{isListen, isRespondToWrite, isRespondToRead, limit, counts, returns, fitsAt, fits}
 use Rattle.slave.specs.Calls.{SlaveLent, sizeOf, bytesOf, settingOf}
 use Rattle.slave.specs.Steps.{settingIn, moveOf, needOf, isOpen, moved, begunWith, begin, refused, fitsLent, step, stepRead}
-use Rattle.slave_driver.specs.declared.call.Went.{Went}
 use Rattle.slave_driver.specs.declared.call.Went.the-variants as went
 use Rattle.slave_driver.specs.Lent.{bytesBy}
 use Rattle.slave_driver.specs.Went.{firstMove, takenAt, nextMove, nextRead, begunBy, steppedBy}

@@ -1,7 +1,6 @@
 // A call: its first move, where an answer leads, and what is handed out there. What is lent is lent again at each step, and
-// checked as begin did.
+// checked as at the first move.
 ghost use mathlib.Core.Path.{_≡_};
-ghost use lib.ListN.{length};
 ghost use Rattle.slave.specs.Steps.{handed};
 ghost use Rattle.slave_driver.specs.Lent.{bytesBy};
 ghost use Rattle.slave_driver.specs.Went.{firstMove, nextMove, nextRead};

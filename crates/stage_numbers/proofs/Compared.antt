@@ -1,4 +1,4 @@
--- The comparisons of a block with an image, in the order and the form of the tests in the code.
+-- Comparisons and tests, put into the order and the form that the code has.
 -- Assumes nothing.
 use Prim.Native.Nat.{ℕ}
 use mathlib.Core.Path.{_≡_, refl, sym}

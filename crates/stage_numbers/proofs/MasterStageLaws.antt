@@ -1,6 +1,5 @@
 -- The numbers of a master call's stage tell the stage.
 -- Assumes nothing.
-use Prim.Native.Nat.{ℕ}
 use mathlib.Core.Path.{_≡_, refl, ap}
 use Rattle.master.specs.declared.stage.Fall.{Fall}
 use Rattle.master.specs.declared.stage.Fall.the-variants as fall

@@ -1,6 +1,5 @@
 -- The numbers of a slave call's stage tell the stage.
 -- Assumes nothing.
-use Prim.Native.Nat.{ℕ}
 use mathlib.Core.Path.{_≡_, refl, ap}
 use Rattle.slave.specs.declared.stage.StopfFor.{StopfFor}
 use Rattle.slave.specs.declared.stage.StopfFor.the-variants as stopfFor

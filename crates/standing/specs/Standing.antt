@@ -1,5 +1,5 @@
 -- Where a state stands in what is lent.
-use mathlib.Core.Bool.{Bool, true, false, cond}
+use mathlib.Core.Bool.{cond}
 use mathlib.Core.List.{List}
 use Prim.Native.Nat.{ℕ}
 use Rattle.master.specs.declared.state.State.{State}

@@ -1,24 +1,22 @@
 -- The Rust's `timing` is what document 01 says, and that leaves one answer only.
 -- Assumes nothing.
-use Prim.Native.Nat.{ℕ, zero, suc, _+_, _*_, _/_, _%_, _<_, _≤_, min, max}
+use Prim.Native.Nat.{ℕ, zero, suc, _*_, _/_, _<_, _≤_, max}
 use mathlib.Core.Path.{_≡_, refl, sym, ap, _∙_, subst}
 use mathlib.Core.Bool.{Bool, true, false, cond, not, _&&_, _||_}
 use mathlib.Core.Option.{Option, none, some}
-use native.Mathlib.Nat.{mul-assoc, mul-comm, mod-eq-of-lt, le-trans, mul-le-mul-right}
+use native.Mathlib.Nat.{mul-assoc, mul-comm, le-trans, mul-le-mul-right}
 use native.Mathlib.Decide.{decLe}
 use native.Mathlib.Omega.{arith}
 use borrow.Author.Tests.{le-ltb, lt-ltb, le-leb, lt-leb}
 use lib.Dec.{eqb, ltb, leb, eqb·suc-zero}
 use Rattle.registers.specs.declared.chip.Chip.{Chip}
 use Rattle.access.specs.declared.ending.Error.{Error}
-use Rattle.access.specs.declared.ending.Error.the-variants.{InvalidFrequency, DividerTooLarge, InputTooSlow}
 use Rattle.timing.specs.declared.settings.Duty.{Duty}
 use Rattle.timing.specs.declared.settings.Duty.the-variants.{«Duty2_1», «Duty16_9»}
-use Rattle.timing.specs.declared.settings.Timing.{Timing}
 use Rattle.timing.specs.declared.settings.Timed.{Timed}
 use Rattle.timing.specs.declared.settings.Timed.the-variants.{At, Refused}
-use Rattle.timing.specs.Document.{Least, Enough, factor, is16-9, fast, mhz, firstCause, SlowEnough, Documented, AsDocumented, settled, refused}
-use Rattle.timing.specs.Rust.{sameDuty, factorOf, floorOf, clamped, riseOf, div-ceil, timing}
+use Rattle.timing.specs.Document.{Least, Enough, factor, is16-9, fast, SlowEnough, AsDocumented, settled, refused}
+use Rattle.timing.specs.Rust.{sameDuty, factorOf, div-ceil, timing}
 use Rattle.timing.proofs.LeastLaws.{least-unique, formula}
 use Rattle.timing.proofs.TimingLaws as laws
 

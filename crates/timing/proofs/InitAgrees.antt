@@ -1,20 +1,20 @@
 -- The machine of `init` is the Rust's `init`.
 -- Assumes nothing.
-use Prim.Native.Nat.{ℕ, _<_}
-use mathlib.Core.Path.{_≡_, refl, ap}
-use mathlib.Core.Bool.{Bool, true, false, cond}
-use mathlib.Core.List.{List, []}
+use Prim.Native.Nat.{ℕ}
+use mathlib.Core.Path.{refl, ap}
+use mathlib.Core.Bool.{true}
+use mathlib.Core.List.{[]}
 use Rattle.registers.specs.declared.chip.Chip.{Chip}
 use Rattle.registers.specs.declared.register.Register.the-variants.{Ctlr1, Ckcfgr}
 use Rattle.registers.specs.Bits.{PE}
 use Rattle.registers.specs.Word.{putBit}
 use Rattle.access.specs.Endings.{done}
-use Rattle.access.specs.Program.{Program, finish, access, read, write, callOf}
+use Rattle.access.specs.Program.{finish, access, read, write, callOf}
 use Rattle.access.proofs.Agreement.{Agree, ends, reads, writes, cases}
 use Rattle.timing.specs.declared.settings.Timing.{Timing}
 use Rattle.timing.specs.declared.init.Stage.the-variants.{ClockWrite}
-use Rattle.timing.specs.Rust.{timing, init}
-use Rattle.timing.specs.Machine.{clockWord, to, saving, owed, advance, begin, begunAt, initMachine, started}
+use Rattle.timing.specs.Rust.{init}
+use Rattle.timing.specs.Machine.{clockWord, saving, owed, advance, begin, begunAt, initMachine, started}
 use Rattle.timing.specs.Claims.{InitIsTheRust}
 
 module _ (chip : Chip) (t : Timing) (n : ℕ) where

@@ -1,7 +1,7 @@
 -- The least divider: that it is one number, that the code's cases give it, and that the Rust's formula gives it.
 -- Assumes nothing.
-use Prim.Native.Nat.{ℕ, suc, _+_, _*_, _/_, _%_, _<_, _≤_, max}
-use mathlib.Core.Path.{_≡_, refl, sym, ap, _∙_, subst}
+use Prim.Native.Nat.{ℕ, _+_, _*_, _/_, _%_, _<_, _≤_, max}
+use mathlib.Core.Path.{_≡_, refl}
 use mathlib.Core.Bool.{Bool, true, false, cond}
 use native.Mathlib.Nat.{le-antisymm, le-trans, mul-le-mul-right, div-mul-le-self, lt-div-mul-add, add-mul, one-mul, lt-of-mul-lt-mul-right, le-of-mul-le-mul-right, div-add-mod', lt-of-lt-of-le}
 use native.Mathlib.Decide.{decLe}

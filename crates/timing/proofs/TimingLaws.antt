@@ -1,21 +1,19 @@
 -- What `timing` answers, way by way.
 -- Assumes nothing.
-use Prim.Native.Nat.{ℕ, _+_, _*_, _/_, _%_, _<_, _≤_, min, max}
-use mathlib.Core.Path.{_≡_, refl, sym, ap, _∙_, subst}
+use Prim.Native.Nat.{ℕ, _*_, _/_, _%_, _<_, _≤_, min}
+use mathlib.Core.Path.{_≡_, refl}
 use mathlib.Core.Bool.{Bool, true, false, cond, not, _&&_, _||_}
 use native.Mathlib.Nat.{mul-pos, mod-eq-of-lt, mul-le-mul, le-refl}
 use native.Mathlib.Omega.{arith}
-use borrow.Author.Tests.{ltb-true, leb-true, le-leb, lt-leb, not-true, not-false}
+use borrow.Author.Tests.{ltb-true, le-leb, lt-leb}
 use lib.Dec.{ltb, leb, lit<}
 use Rattle.registers.specs.declared.chip.Chip.{Chip}
 use Rattle.access.specs.declared.ending.Error.the-variants.{InvalidFrequency, DividerTooLarge, InputTooSlow}
 use Rattle.timing.specs.declared.settings.Duty.{Duty}
 use Rattle.timing.specs.declared.settings.Duty.the-variants.{«Duty2_1», «Duty16_9»}
-use Rattle.timing.specs.declared.settings.Timing.{Timing}
-use Rattle.timing.specs.declared.settings.Timed.{Timed}
 use Rattle.timing.specs.declared.settings.Timed.the-variants.{At, Refused}
 use Rattle.timing.specs.Document.{Least, Enough}
-use Rattle.timing.specs.Rust.{sameDuty, factorOf, floorOf, clamped, riseOf, div-ceil, timing}
+use Rattle.timing.specs.Rust.{sameDuty, factorOf, floorOf, clamped, riseOf, timing}
 use Rattle.timing.proofs.LeastLaws.{is-formula}
 
 pub factor-pos : (fast : Bool) (duty : Duty) → 0 < factorOf fast duty

@@ -1,7 +1,7 @@
 -- Layer 2: `init` as a machine.
 use Prim.Native.Nat.{ℕ}
-use mathlib.Core.Bool.{Bool, true, false, cond}
-use mathlib.Core.List.{List, []}
+use mathlib.Core.Bool.{true, false, cond}
+use mathlib.Core.List.{[]}
 use Rattle.registers.specs.declared.chip.Chip.{Chip}
 use Rattle.registers.specs.declared.register.Register.the-variants.{Ctlr1, Ctlr2, Ckcfgr, Rtr}
 use Rattle.registers.specs.Bits.{PE, SWRST, DUTY, «F_S»}

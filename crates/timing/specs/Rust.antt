@@ -9,7 +9,7 @@ use Rattle.registers.specs.Fields.{FREQ, CCR, TRISE}
 use Rattle.registers.specs.Word.{putBit, putField}
 use Rattle.access.specs.declared.ending.Error.{Error}
 use Rattle.access.specs.declared.ending.Error.the-variants.{InvalidFrequency, DividerTooLarge, InputTooSlow}
-use Rattle.access.specs.Program.{Blocking, _>>=_, _>>_, modify, writeRegister, onlyIf}
+use Rattle.access.specs.Program.{Blocking, modify, writeRegister, onlyIf, _>>_, _>>=_}
 use Rattle.timing.specs.declared.settings.Duty.{Duty}
 use Rattle.timing.specs.declared.settings.Duty.the-variants.{«Duty2_1», «Duty16_9»}
 use Rattle.timing.specs.declared.settings.Timing.{Timing}

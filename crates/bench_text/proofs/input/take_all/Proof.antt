@@ -1,7 +1,7 @@
 -- `bench_text::input::take_all` meets its contract: what the lines that are left say leads to what the whole input says.
 -- Assumes nothing.
 use Prim.Native.Nat.{_-_}
-use mathlib.Core.Path.{_≡_, sym, ap, _∙_}
+use mathlib.Core.Path.{sym, ap, _∙_}
 use lib.ListN.{length}
 use Rattle.bench_text.specs.Taken.{parsedOf}
 use Rattle.bench_text.proofs.InputLaws.{Between, at-start, kept-list, kept-written, kept-words, all-said, has-room, bad-line, good-line, goes-ahead}

@@ -1,6 +1,5 @@
 -- `bench_text::input::take_read` meets its contract.
 -- Assumes nothing.
-use mathlib.Core.Path.{sym, _∙_}
 use Rattle.bench_text.specs.Taken.{takenWith, listWith}
 use Rattle.bench_text.proofs.TakeLaws.{read-bad, read-good}
 use borrow.Author.Needs.{needs}

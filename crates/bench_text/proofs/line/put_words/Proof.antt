@@ -1,7 +1,7 @@
 -- `bench_text::line::put_words` meets its contract: what is left to store leads to the whole.
 -- Assumes nothing.
 use Prim.Native.Nat.{ℕ, _+_, _-_, _%_, _≤_}
-use mathlib.Core.Path.{_≡_, refl, ap, _∙_}
+use mathlib.Core.Path.{_≡_, refl, ap}
 use lib.ListN.{length, drop}
 use Rattle.bench_text.specs.Forms.{wordsOf}
 use Rattle.bench_text.proofs.LineLaws.{none-left, next-word}

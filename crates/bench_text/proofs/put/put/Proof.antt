@@ -1,10 +1,9 @@
 -- `bench_text::put::put` meets its contract: what is left to put leads to the whole.
 -- Assumes nothing.
 use Prim.Native.Nat.{_+_, _-_, _≤_}
-use mathlib.Core.Path.{_≡_, refl, ap, _∙_}
-use native.Mathlib.Nat.{add-zero, add-assoc}
+use mathlib.Core.Path.{_≡_, refl}
 use native.Mathlib.Omega.{arith}
-use lib.ListN.{length, drop, length-set, drop-of-length-le}
+use lib.ListN.{length, drop, length-set}
 use Rattle.bench_text.proofs.PutLaws.{Leads, put-starts, put-goes-on, put-over}
 use Rattle.bench_text.proofs.put.put.Statement.{statement}
 use Rattle.bench_text.proofs.put.put.Tie as tie

@@ -1,7 +1,7 @@
 -- `bench_text::put::put_hex` meets its contract: what is left to put leads to the whole.
 -- Assumes nothing.
 use Prim.Native.Nat.{_+_, _-_, _≤_}
-use mathlib.Core.Path.{_≡_, refl, _∙_}
+use mathlib.Core.Path.{_≡_, refl}
 use lib.ListN.{length, drop}
 use Rattle.bench_text.specs.Digits.{hexText}
 use Rattle.bench_text.proofs.PutLaws.{Leads, leads-from, hex-more, hex-all}

@@ -1,6 +1,6 @@
 -- `ch32_i2c::init::ch32_i2c_init_begin` meets its contract.
 -- Assumes nothing.
-use mathlib.Core.Path.{_∙_, ap, sym}
+use mathlib.Core.Path.{_∙_, sym}
 use Rattle.ch32_i2c.proofs.LeavesLaws.{block-leaves}
 use Rattle.ch32_i2c.proofs.InitLeaves.{begin-short, begin-unknown, begin-accepted, begin-refused, set-up}
 use borrow.Author.Needs.{needs}

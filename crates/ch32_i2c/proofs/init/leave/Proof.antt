@@ -1,6 +1,6 @@
 -- `ch32_i2c::init::leave` meets its contract.
 -- Assumes nothing.
-use mathlib.Core.Path.{_∙_, ap, sym}
+use mathlib.Core.Path.{_∙_, ap}
 use Rattle.block.specs.Bytes32.{bytesOf}
 use borrow.Author.Needs.{needs}
 use Rattle.ch32_i2c.proofs.init.leave.Statement.{statement}

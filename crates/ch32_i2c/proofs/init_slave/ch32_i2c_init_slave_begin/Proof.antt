@@ -3,7 +3,6 @@
 use mathlib.Core.Path.{_∙_, ap, sym}
 use Rattle.ch32_i2c.proofs.LeavesLaws.{block-leaves}
 use Rattle.ch32_i2c.proofs.InitSlaveLeaves.{begin-short, begin-unknown, begin-accepted, begin-refused}
-use Rattle.slave.specs.declared.config.SlaveConfig.{SlaveConfig}
 use Rattle.slave.specs.Init.{begin}
 use borrow.Author.Needs.{needs}
 use Rattle.ch32_i2c.proofs.init_slave.ch32_i2c_init_slave_begin.Statement.{statement}

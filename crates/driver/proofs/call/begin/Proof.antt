@@ -1,7 +1,7 @@
 -- `driver::call::begin` meets its contract.
 -- Assumes nothing.
 use borrow.Author.Needs.{needs}
-use mathlib.Core.Path.{_∙_, sym, ap}
+use mathlib.Core.Path.{_∙_, sym}
 use Rattle.driver.proofs.CallLaws.{begin-to, begin-refused}
 use Rattle.driver.proofs.call.begin.Statement.{statement}
 use Rattle.driver.proofs.call.begin.Tie as tie

@@ -1,7 +1,6 @@
 -- `driver::call::stepped` meets its contract.
 -- Assumes nothing.
 use borrow.Author.Needs.{needs}
-use mathlib.Core.Path.{_∙_, sym}
 use Rattle.driver.proofs.CallLaws.{stepped-to, stepped-refused}
 use Rattle.driver.proofs.call.stepped.Statement.{statement}
 use Rattle.driver.proofs.call.stepped.Tie as tie

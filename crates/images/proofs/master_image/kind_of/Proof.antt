@@ -2,7 +2,6 @@
 -- Assumes nothing.
 use borrow.Author.Needs.{needs}
 use borrow.Author.Tests.{ne-eqb}
-use Rattle.images.specs.MasterImage.{kindOf}
 use Rattle.images.proofs.master_image.kind_of.Statement.{statement}
 use Rattle.images.proofs.master_image.kind_of.Tie as tie
 

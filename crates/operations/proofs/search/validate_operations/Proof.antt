@@ -1,14 +1,11 @@
 -- `operations::search::validate_operations` meets its contract: between two runs, and within one, what is left leads to the whole's answer.
 -- Assumes nothing.
-use Prim.Native.Nat.{ℕ, _+_, _-_, _≤_, _<_}
-use mathlib.Core.Path.{_≡_, refl, sym, ap, _∙_}
+use Prim.Native.Nat.{_+_, _-_, _≤_, _<_}
+use mathlib.Core.Path.{_≡_, refl, sym, _∙_}
 use mathlib.Core.Logic.{_⊎_, inl, inr, ⊎-elim}
 use native.Mathlib.Omega.{arith}
 use borrow.Author.Needs.{needs}
-use lib.Dec.{leb}
 use lib.ListN.{length, getD}
-use Rattle.operations.specs.Operations.{directionOf}
-use Rattle.operations.specs.Runs.{span}
 use Rattle.operations.specs.Tally.{passed}
 use Rattle.operations.proofs.ListLaws.{part-fault, fault-direction, fault-empty, fault-total}
 use Rattle.operations.proofs.SearchLaws.{Between, Within, at-start, at-end, at-fault, run-begins, run-goes-on, run-ends}

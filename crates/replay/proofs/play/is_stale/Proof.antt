@@ -1,7 +1,6 @@
 -- `replay::play::is_stale` meets its contract.
 -- Assumes nothing.
 use Prim.Native.Nat.{_≤_, _-_}
-use mathlib.Core.Path.{_≡_}
 use lib.ListN.{length}
 use borrow.Author.Needs.{needs}
 use Rattle.replay.proofs.play.is_stale.Statement.{statement}

@@ -2,7 +2,7 @@
 -- Assumes nothing.
 use borrow.Author.Needs.{needs}
 use borrow.Author.Tests.{ne-eqb}
-use Rattle.stage_numbers.specs.MasterStage.{stageOf, isStage}
+use Rattle.stage_numbers.specs.MasterStage.{isStage}
 use Rattle.stage_numbers.proofs.Compared.{turned}
 use Rattle.stage_numbers.proofs.MasterStageRanges.{no-stage, fall-range, fall-stage-range, launch-stage-range, flag-range, wait-stage-range, address-stage-range, recv-stage-range, read-stage-range, stop-for-range, half-range, abort-stage-range}
 use Rattle.stage_numbers.proofs.master_stage.is_stage.Statement.{statement}

@@ -2,7 +2,7 @@
 -- Assumes nothing.
 use borrow.Author.Needs.{needs}
 use borrow.Author.Tests.{ne-eqb}
-use Rattle.stage_numbers.specs.SlaveStage.{stageOf, isStage}
+use Rattle.stage_numbers.specs.SlaveStage.{isStage}
 use Rattle.stage_numbers.proofs.Compared.{turned}
 use Rattle.stage_numbers.proofs.SlaveStageRanges.{no-stage, stopf-for-range, stopf-stage-range, stale-stage-range, arm-stage-range, match-stage-range, half-range, error-stage-range, abort-stage-range}
 use Rattle.stage_numbers.proofs.slave_stage.is_stage.Statement.{statement}
