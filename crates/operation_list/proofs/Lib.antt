@@ -1,3 +1,4 @@
 pub mod ManyLaws
 pub mod SliceLaws
 pub mod Examples
+pub mod LentWalk

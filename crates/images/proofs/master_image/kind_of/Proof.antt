@@ -5,22 +5,13 @@ use borrow.Author.Tests.{ne-eqb}
 use Rattle.images.proofs.master_image.kind_of.Statement.{statement}
 use Rattle.images.proofs.master_image.kind_of.Tie as tie
 
-returns : tie.Need-returns
-returns c = rw (c .match .keys1)
-
-returns-2 : tie.Need-returns-2
-returns-2 c = rw (c .match .keys2)
-
-returns-3 : tie.Need-returns-3
-returns-3 c = rw (c .before .match .keys3, c .frame-options-of .ensures)
-
-returns-4 : tie.Need-returns-4
-returns-4 c = simp (ne-eqb _ _ (c .before .match .rest .1), ne-eqb _ _ (c .before .match .rest .0 .1), ne-eqb _ _ (c .before .match .rest .0 .0 .1), c .frame-options-of2 .ensures)
-
 pub kind-of-spec : {M : Type 1} → statement M
 kind-of-spec =
     tie.close
     (tie.spec
     (λ c κs. search needs)
     (λ c κs. search needs)
-    returns returns-2 returns-3 returns-4)
+    (λ c. rw (c .match .keys1))
+    (λ c. rw (c .match .keys2))
+    (λ c. rw (c .before .match .keys3, c .frame-options-of .ensures))
+    (λ c. simp (ne-eqb _ _ (c .before .match .rest .1), ne-eqb _ _ (c .before .match .rest .0 .1), ne-eqb _ _ (c .before .match .rest .0 .0 .1), c .frame-options-of2 .ensures)))
