@@ -11,10 +11,12 @@ use lib.ListN.{length, take, length-take}
 use Rattle.access.specs.declared.ending.Ending.{Ending}
 use Rattle.access.specs.declared.ending.Error.{Error}
 use Rattle.access.specs.declared.ending.Error.the-variants.{InvalidState, InvalidArgument}
-use Rattle.access.specs.Endings.{failed}
+use Rattle.access.specs.Endings.{returned, failed}
 use Rattle.access.specs.Record.{Shown, noMore, DifferInPayload, Same, SameStruck, EndsAlike, struck}
 use Rattle.access.specs.Machine.{shownFrom}
 use Rattle.access.proofs.NumberLaws.{number-injective}
+use Rattle.alike.specs.Like.{forgetEnd, forgetting}
+use Rattle.errors.proofs.CheckLaws.{others-stay}
 use Rattle.block.specs.Bytes32.{blockSize, Bytes}
 use Rattle.timing.specs.declared.settings.Timed.{Timed}
 use Rattle.timing.specs.declared.settings.Timed.the-variants as timed
@@ -26,18 +28,21 @@ use Rattle.master.specs.declared.call.Kind.the-variants as kind
 use Rattle.master.specs.Calls.{Lent, lentWith, refuse, refusal, callShown, seenAfter, spansBy, spansOf}
 use Rattle.master.specs.Steps as masterSteps
 use Rattle.master.specs.Claims.{Comparable}
-use Rattle.master.proofs.CallAgrees.{master-is-the-rust, runs-join}
+use Rattle.master.proofs.CallAgrees.{master-is-ours}
+use Rattle.master.proofs.Joining.{runs-join}
+use Rattle.master.proofs.OursIsTheRust as masterIs
 use Rattle.master.proofs.Secret.{master-is-secret}
 use Rattle.slave.specs.declared.config.SlaveConfig.{SlaveConfig}
 use Rattle.slave.specs.declared.state.Kind as slave
 use Rattle.slave.specs.Machine as slaveMachine
 use Rattle.slave.specs.declared.state.Kind.the-variants.{Listen, RespondToWrite, RespondToRead}
 use Rattle.slave.specs.Init as initSlaveMachine
-use Rattle.slave.specs.Calls.{SlaveLent, sizeOf, sizeRefusal, initShown, slaveShown}
+use Rattle.slave.specs.Calls.{SlaveLent, sizeOf, sizeRefusal, initShown, rustInit, slaveShown}
 use Rattle.slave.specs.Calls as slaveCalls
 use Rattle.slave.specs.Steps as slaveSteps
 use Rattle.slave.specs.Claims.{Any}
-use Rattle.slave.proofs.CallAgrees.{slave-is-the-rust}
+use Rattle.slave.proofs.CallAgrees.{slave-is-ours}
+use Rattle.slave.proofs.OursIsTheRust as slaveIs
 use Rattle.slave.proofs.Secret.{slave-is-secret}
 use Rattle.slave_driver.specs.Lent as slaveLent
 use Rattle.images.specs.Numbers.{chipOf, transactionEntry, writeReadEntry, writeEntry, readEntry, listenEntry, respondToWriteEntry, respondToReadEntry}
@@ -49,7 +54,7 @@ use Rattle.ch32_i2c.specs.Transfer.{callOf, masterBegin}
 use Rattle.ch32_i2c.specs.Transfer as cTransfer
 use Rattle.ch32_i2c.specs.InitSlave as cInitSlave
 use Rattle.ch32_i2c.specs.Response as cResponse
-use Rattle.ch32_i2c.specs.Demands.{Call, init, transaction, writeRead, write, read, initSlave, listen, respondToWrite, respondToRead, entryOf, Reads, unknown, ownRefusal, refusalOf, Accepted, timedRefusal, rust, rustTimed, NoneAdded, IsMet, takes, Demand1, Demand2, Demand3, SeenAlike, SameRuns, transactions, writeReads, writes, reads, writtenBy, recordAfter, endAfter, struckAfter}
+use Rattle.ch32_i2c.specs.Demands.{Call, init, transaction, writeRead, write, read, initSlave, listen, respondToWrite, respondToRead, entryOf, Reads, unknown, ownRefusal, refusalOf, Accepted, timedRefusal, rust, ours, endAsTheRust, timedShown, NoneAdded, IsMet, takes, Demand1, Demand2, Demand3, SeenAlike, SameRuns, transactions, writeReads, writes, reads, writtenBy, recordAfter, endAfter, struckAfter}
 use Rattle.ch32_i2c.proofs.Recorded.{seenOf, asSeen, record-is, end-is, struck-is}
 use Rattle.ch32_i2c.proofs.CallsRun.{parts, Runs, transfer-runs, write-runs, response-runs, unread-runs, init-runs, init-slave-runs, shownTimed, small}
 use Rattle.ch32_i2c.proofs.Stops.{init-stops, master-stops, init-slave-stops, slave-stops}
@@ -100,38 +105,81 @@ runs (respondToRead chip reply) block bytes e a =
     at-nothing (respondToRead chip reply) block bytes e
     (λ a. let p = parts (respondToRead chip reply) block [] a in unread-runs chip RespondToRead reply (small (length reply) (p .own)) block (p .size) (p .known)) a
 
--- ---- it is layer 1's
+-- ---- it is our text's
 
-timed-rust : (chip input frequency duty : ℕ) (x : Timed) → timing (chipOf chip) input frequency (cInit.dutyOf duty) ≡ x → (turns : ℕ) (answers : List ℕ) → length answers < turns
-    → shownTimed chip x answers ≡ rustTimed chip turns x answers
-timed-rust chip input frequency duty (timed.At t) q turns answers h = init-is-the-rust (chipOf chip) input frequency (cInit.dutyOf duty) t q .same answers turns h
-timed-rust chip input frequency duty (timed.Refused e) q turns answers h = refl
+timed-ours : (chip input frequency duty : ℕ) (x : Timed) → timing (chipOf chip) input frequency (cInit.dutyOf duty) ≡ x → (turns : ℕ) (answers : List ℕ) → length answers < turns
+    → shownTimed chip x answers ≡ timedShown chip turns x answers
+timed-ours chip input frequency duty (timed.At t) q turns answers h = init-is-the-rust (chipOf chip) input frequency (cInit.dutyOf duty) t q .same answers turns h
+timed-ours chip input frequency duty (timed.Refused e) q turns answers h = refl
 
-shown-rust : (c : Call) (room : ℕ) → NoneAdded c room → (turns : ℕ) (answers : List ℕ) → length answers < turns → shownBy c room answers ≡ rust turns c room answers
-shown-rust (init chip input frequency duty) room q turns answers h = timed-rust chip input frequency duty (timing (chipOf chip) input frequency (cInit.dutyOf duty)) refl turns answers h
-shown-rust (transaction chip address list written) room q turns answers h = master-is-the-rust .same (callOf chip address kind.Transaction) (lentWith list written room) q turns answers h
-shown-rust (writeRead chip address written) room q turns answers h = master-is-the-rust .same (callOf chip address kind.WriteRead) (lentWith [] written room) q turns answers h
-shown-rust (write chip address option written) room q turns answers h = master-is-the-rust .same (callOf chip address (kind.Write (frameOptionsOf option))) (lentWith [] written 0) q turns answers h
-shown-rust (read chip address option) room q turns answers h = master-is-the-rust .same (callOf chip address (kind.Read (frameOptionsOf option))) (lentWith [] [] room) q turns answers h
-shown-rust (initSlave ten address has second general stretching) room q turns answers h = slave-is-the-rust .init (cInitSlave.configOf ten address has second general stretching) turns answers h
-shown-rust (listen chip) room q turns answers h = slave-is-the-rust .same (chipOf chip) Listen (slaveLent.lentWith [] 0) (omega arith) turns answers h
-shown-rust (respondToWrite chip) room q turns answers h = slave-is-the-rust .same (chipOf chip) RespondToWrite (slaveLent.lentWith [] room) q turns answers h
-shown-rust (respondToRead chip reply) room q turns answers h = slave-is-the-rust .same (chipOf chip) RespondToRead (slaveLent.lentWith reply 0) q turns answers h
+shown-ours : (c : Call) (room : ℕ) → NoneAdded c room → (turns : ℕ) (answers : List ℕ) → length answers < turns → shownBy c room answers ≡ ours turns c room answers
+shown-ours (init chip input frequency duty) room q turns answers h = timed-ours chip input frequency duty (timing (chipOf chip) input frequency (cInit.dutyOf duty)) refl turns answers h
+shown-ours (transaction chip address list written) room q turns answers h = master-is-ours .same (callOf chip address kind.Transaction) (lentWith list written room) q turns answers h
+shown-ours (writeRead chip address written) room q turns answers h = master-is-ours .same (callOf chip address kind.WriteRead) (lentWith [] written room) q turns answers h
+shown-ours (write chip address option written) room q turns answers h = master-is-ours .same (callOf chip address (kind.Write (frameOptionsOf option))) (lentWith [] written 0) q turns answers h
+shown-ours (read chip address option) room q turns answers h = master-is-ours .same (callOf chip address (kind.Read (frameOptionsOf option))) (lentWith [] [] room) q turns answers h
+shown-ours (initSlave ten address has second general stretching) room q turns answers h = slave-is-ours .init (cInitSlave.configOf ten address has second general stretching) turns answers h
+shown-ours (listen chip) room q turns answers h = slave-is-ours .same (chipOf chip) Listen (slaveLent.lentWith [] 0) (omega arith) turns answers h
+shown-ours (respondToWrite chip) room q turns answers h = slave-is-ours .same (chipOf chip) RespondToWrite (slaveLent.lentWith [] room) q turns answers h
+shown-ours (respondToRead chip reply) room q turns answers h = slave-is-ours .same (chipOf chip) RespondToRead (slaveLent.lentWith reply 0) q turns answers h
+
+-- ---- and our text is the Rust's
+
+nothing-forgotten : (r : Shown) → r ≡ forgetting (λ e. e) r
+nothing-forgotten r = ap (λ (e : Option Ending). record { events = r .events; arrivals = r .arrivals; end = e }) (kept (r .end))
+  where
+    kept : (e : Option Ending) → e ≡ forgetEnd (λ e. e) e
+    kept none = refl
+    kept (some e) = refl
+
+as-the-rust : (c : Call) (room turns : ℕ) (answers : List ℕ) → rust turns c room answers ≡ forgetting (endAsTheRust c) (ours turns c room answers)
+as-the-rust (init chip input frequency duty) room turns answers = nothing-forgotten (timedShown chip turns (timing (chipOf chip) input frequency (cInit.dutyOf duty)) answers)
+as-the-rust (transaction chip address list written) room turns answers = masterIs.ours-is-the-rust (callOf chip address kind.Transaction) (lentWith list written room) turns answers
+as-the-rust (writeRead chip address written) room turns answers = masterIs.ours-is-the-rust (callOf chip address kind.WriteRead) (lentWith [] written room) turns answers
+as-the-rust (write chip address option written) room turns answers = masterIs.ours-is-the-rust (callOf chip address (kind.Write (frameOptionsOf option))) (lentWith [] written 0) turns answers
+as-the-rust (read chip address option) room turns answers = masterIs.ours-is-the-rust (callOf chip address (kind.Read (frameOptionsOf option))) (lentWith [] [] room) turns answers
+as-the-rust (initSlave ten address has second general stretching) room turns answers = nothing-forgotten (rustInit turns (cInitSlave.configOf ten address has second general stretching) answers)
+as-the-rust (listen chip) room turns answers = slaveIs.ours-is-the-rust (chipOf chip) Listen (slaveLent.lentWith [] 0) turns answers
+as-the-rust (respondToWrite chip) room turns answers = slaveIs.ours-is-the-rust (chipOf chip) RespondToWrite (slaveLent.lentWith [] room) turns answers
+as-the-rust (respondToRead chip reply) room turns answers = slaveIs.ours-is-the-rust (chipOf chip) RespondToRead (slaveLent.lentWith reply 0) turns answers
+
+-- an end that no error check decided
+others : (c : Call) (e : Error) → endAsTheRust c (failed e) ≡ failed e
+others (init chip input frequency duty) e = refl
+others (transaction chip address list written) e = others-stay .failures (chipOf chip) true e
+others (writeRead chip address written) e = others-stay .failures (chipOf chip) true e
+others (write chip address option written) e = others-stay .failures (chipOf chip) true e
+others (read chip address option) e = others-stay .failures (chipOf chip) true e
+others (initSlave ten address has second general stretching) e = refl
+others (listen chip) e = others-stay .failures (chipOf chip) false e
+others (respondToWrite chip) e = others-stay .failures (chipOf chip) false e
+others (respondToRead chip reply) e = others-stay .failures (chipOf chip) false e
+
+returns : (c : Call) (v : ℕ) → endAsTheRust c (returned v) ≡ returned v
+returns (init chip input frequency duty) v = refl
+returns (transaction chip address list written) v = others-stay .done (chipOf chip) true v
+returns (writeRead chip address written) v = others-stay .done (chipOf chip) true v
+returns (write chip address option written) v = others-stay .done (chipOf chip) true v
+returns (read chip address option) v = others-stay .done (chipOf chip) true v
+returns (initSlave ten address has second general stretching) v = refl
+returns (listen chip) v = others-stay .done (chipOf chip) false v
+returns (respondToWrite chip) v = others-stay .done (chipOf chip) false v
+returns (respondToRead chip reply) v = others-stay .done (chipOf chip) false v
 
 -- an accepted call has no added cause
 none-added : (c : Call) (room : ℕ) → ownRefusal c room ≡ none → NoneAdded c room
 none-added (init chip input frequency duty) room q = q
-none-added (transaction chip address list written) room q = master-is-the-rust .covers (callOf chip address kind.Transaction) (lentWith list written room) q
-none-added (writeRead chip address written) room q = master-is-the-rust .covers (callOf chip address kind.WriteRead) (lentWith [] written room) q
-none-added (write chip address option written) room q = master-is-the-rust .covers (callOf chip address (kind.Write (frameOptionsOf option))) (lentWith [] written 0) q
-none-added (read chip address option) room q = master-is-the-rust .covers (callOf chip address (kind.Read (frameOptionsOf option))) (lentWith [] [] room) q
+none-added (transaction chip address list written) room q = master-is-ours .covers (callOf chip address kind.Transaction) (lentWith list written room) q
+none-added (writeRead chip address written) room q = master-is-ours .covers (callOf chip address kind.WriteRead) (lentWith [] written room) q
+none-added (write chip address option written) room q = master-is-ours .covers (callOf chip address (kind.Write (frameOptionsOf option))) (lentWith [] written 0) q
+none-added (read chip address option) room q = master-is-ours .covers (callOf chip address (kind.Read (frameOptionsOf option))) (lentWith [] [] room) q
 none-added (initSlave ten address has second general stretching) room q = tt
 none-added (listen chip) room q = tt
 none-added (respondToWrite chip) room q = small room q
 none-added (respondToRead chip reply) room q = small (length reply) q
 
-accepted-rust : (c : Call) (block bytes : List ℕ) → Accepted c block bytes → (turns : ℕ) (answers : List ℕ) → length answers < turns → shownBy c (length bytes) answers ≡ rust turns c (length bytes) answers
-accepted-rust c block bytes a turns answers h = shown-rust c (length bytes) (none-added c (length bytes) (parts c block bytes a .own)) turns answers h
+accepted-ours : (c : Call) (block bytes : List ℕ) → Accepted c block bytes → (turns : ℕ) (answers : List ℕ) → length answers < turns → shownBy c (length bytes) answers ≡ ours turns c (length bytes) answers
+accepted-ours c block bytes a turns answers h = shown-ours c (length bytes) (none-added c (length bytes) (parts c block bytes a .own)) turns answers h
 
 -- a refused call shows its refusal
 call-refused : (c : master.Call) (l : Lent) (e : Error) → refusal c l ≡ some e → (answers : List ℕ) → callShown c l answers ≡ noMore (some (failed e))
@@ -252,8 +300,15 @@ demand-2 =
     record {
       same =
           λ c block bytes k a turns answers h.
-          subst (λ (s : Shown). Makes (entryOf c) block bytes answers s) (accepted-rust c block bytes a turns answers h) (runs c block bytes k a .makes answers);
-      refused = λ c room n e q turns answers h. sym (shown-rust c room n turns answers h) ∙ shown-refused c room e q answers;
+          subst (λ (s : Shown). Makes (entryOf c) block bytes answers s) (accepted-ours c block bytes a turns answers h) (runs c block bytes k a .makes answers);
+      as-the-rust = as-the-rust;
+      others = others;
+      returns = returns;
+      refused =
+          λ c room n e q turns answers h.
+          as-the-rust c room turns answers
+          ∙ ap (forgetting (endAsTheRust c)) (sym (shown-ours c room n turns answers h) ∙ shown-refused c room e q answers)
+          ∙ ap (λ (x : Ending). noMore (some x)) (others c e);
       joins = runs-join;
     }
 
@@ -266,7 +321,7 @@ module _ (c : Call) (block bytes : List ℕ) (k : Reads c bytes) (a : Accepted c
   struck-shown : (turns : ℕ) (answers : List ℕ) → length answers < turns → struckAfter turns c block bytes answers ≡ map asSeen (struck (shownBy c (length bytes) answers))
   struck-shown turns answers h =
       let r = runs c block bytes k a in
-      ap (λ (s : Shown). struckBy (s .events) (recordAfter c block bytes answers)) (sym (accepted-rust c block bytes a turns answers h))
+      ap (λ (s : Shown). struckBy (s .events) (recordAfter c block bytes answers)) (sym (accepted-ours c block bytes a turns answers h))
       ∙ struck-is (entryOf c) block bytes answers (shownBy c (length bytes) answers) (r .makes answers) (r .recorded answers)
 
   end-shown : (answers : List ℕ) → endAfter c block bytes answers ≡ shownBy c (length bytes) answers .end
@@ -327,7 +382,7 @@ demand-3 =
       transfers =
           λ c₁ c₂ b₁ r₁ b₂ r₂ s k₁ k₂ a₁ a₂ turns xs ys p q d.
           seen-alike Same c₁ c₂ b₁ r₁ b₂ r₂ k₁ k₂ a₁ a₂ turns xs ys p q
-          (runs-agree s (parts c₁ b₁ r₁ a₁ .own) (parts c₂ b₂ r₂ a₂ .own) xs ys (subst (λ (t : Shown). DifferInPayload (t .events) xs ys) (sym (accepted-rust c₁ b₁ r₁ a₁ turns xs p)) d));
+          (runs-agree s (parts c₁ b₁ r₁ a₁ .own) (parts c₂ b₂ r₂ a₂ .own) xs ys (subst (λ (t : Shown). DifferInPayload (t .events) xs ys) (sym (accepted-ours c₁ b₁ r₁ a₁ turns xs p)) d));
       transfers-whole =
           λ c₁ c₂ b₁ r₁ b₂ r₂ s k₁ k₂ a₁ a₂ w answers.
           record-shown c₁ b₁ r₁ k₁ a₁ answers
@@ -337,7 +392,7 @@ demand-3 =
           λ chip b₁ r₁ b₂ r₂ e a₁ a₂ turns xs ys p q d.
           seen-alike Same (respondToWrite chip) (respondToWrite chip) b₁ r₁ b₂ r₂ tt tt a₁ a₂ turns xs ys p q
           (slave-is-secret .received (chipOf chip) (slaveLent.lentWith [] (length r₁)) (slaveLent.lentWith [] (length r₂)) (small (length r₁) (parts (respondToWrite chip) b₁ r₁ a₁ .own)) e xs ys
-          (subst (λ (t : Shown). DifferInPayload (t .events) xs ys) (sym (accepted-rust (respondToWrite chip) b₁ r₁ a₁ turns xs p)) d));
+          (subst (λ (t : Shown). DifferInPayload (t .events) xs ys) (sym (accepted-ours (respondToWrite chip) b₁ r₁ a₁ turns xs p)) d));
       receives-whole =
           λ chip b₁ r₁ b₂ r₂ e a₁ a₂ answers.
           record-shown (respondToWrite chip) b₁ r₁ tt a₁ answers

@@ -13,9 +13,12 @@ use Rattle.access.specs.Record.{DifferInPayload, Same}
 use Rattle.operations.specs.Operations.{operationsOf, shaped}
 use Rattle.operations.specs.Runs.{runsOf, runsFrom}
 use Rattle.operations.specs.Search.{faultFrom}
-use Rattle.master.specs.Calls.{refusal, rustWith}
+use Rattle.errors.specs.Classes.{errorOf}
+use Rattle.errors.specs.Check.{check-errors}
+use Rattle.master.specs.Calls.{refusal, oursWith}
 use Rattle.master.specs.Rust as rust
-use Rattle.slave.specs.Calls.{rustSlave}
+use Rattle.master.specs.Ours as ours
+use Rattle.slave.specs.Calls.{oursSlave}
 use Rattle.slave.specs.Rust as slave
 use Rattle.slave.specs.Claims.{Any}
 use Rattle.ch32_i2c.specs.Demands.{Call, transaction, respondToWrite, respondToRead, Accepted, SameRuns, transactions, SeenAlike}
@@ -54,8 +57,8 @@ same-runs = transactions refl
 abbrev sending : List ℕ
 sending = 0 ∷ 0 ∷ 0 ∷ 0 ∷ 0 ∷ 1 ∷ 0 ∷ 1 ∷ 0 ∷ 2 ∷ 0 ∷ 0x80 ∷ 0 ∷ 4 ∷ 0x80 ∷ 0 ∷ 4 ∷ []
 
-sending-alike : DifferInPayload (demands.rust 18 first 2 sending .events) sending sending
-unfolding rustWith operationsOf rust.blocking-transaction rust.validate-address rust.validate-operations rust.validate-from rust.transact rust.write-group rust.write-bytes rust.start-and-address rust.launch-start rust.wait-stop-finished rust.wait-flag rust.check-and-clear-error-flags rust.send-byte rust.abort-transfer rust.finish-transfer rust.generate-stop rust.checked-add hasBit putBit fieldOf putField errorFlags clearError addressWord checkTimeout late
+sending-alike : DifferInPayload (demands.ours 18 first 2 sending .events) sending sending
+unfolding oursWith operationsOf rust.blocking-transaction rust.validate-address rust.validate-operations rust.validate-from rust.transact rust.write-group rust.write-bytes rust.start-and-address rust.launch-start rust.wait-stop-finished rust.wait-flag ours.check-and-clear-error-flags check-errors errorOf rust.send-byte rust.abort-transfer rust.finish-transfer rust.generate-stop rust.checked-add hasBit putBit fieldOf putField errorFlags clearError addressWord checkTimeout late
 sending-alike = (refl, (refl, (refl, (refl, (refl, (refl, (refl, (refl, (refl, (refl, (refl, (refl, (refl, (refl, (refl, (refl, (refl, tt)))))))))))))))))
 
 transfers-alike : SeenAlike Same 18 first second zeros (0 ∷ 0 ∷ []) ones (9 ∷ 9 ∷ []) sending sending
@@ -69,8 +72,8 @@ xs = 0x40 ∷ 0x11 ∷ 0x40 ∷ 0x22 ∷ 2 ∷ []
 abbrev ys : List ℕ
 ys = 0x40 ∷ 0x99 ∷ 0x40 ∷ 0 ∷ 2 ∷ []
 
-received-differ : DifferInPayload (demands.rust 6 (respondToWrite 0) 1 xs .events) xs ys
-unfolding rustSlave slave.blocking-respond-to-write slave.clear-stopf hasBit errorFlags
+received-differ : DifferInPayload (demands.ours 6 (respondToWrite 0) 1 xs .events) xs ys
+unfolding oursSlave slave.blocking-respond-to-write slave.clear-stopf hasBit errorFlags
 received-differ = (refl, (tt, (refl, (tt, (refl, tt)))))
 
 receives-alike : SeenAlike Same 6 (respondToWrite 0) (respondToWrite 0) zeros (0 ∷ []) ones (5 ∷ []) xs ys

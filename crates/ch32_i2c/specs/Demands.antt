@@ -7,29 +7,34 @@ use mathlib.Core.Option.{Option, none, some}
 use Prim.Native.Nat.{ℕ, _<_, _≤_}
 use lib.Dec.{eqb, ltb}
 use lib.ListN.{length, take}
+use Rattle.registers.specs.declared.chip.Chip.{Chip}
 use Rattle.access.specs.declared.ending.Ending.{Ending}
 use Rattle.access.specs.declared.ending.Ending.the-variants.{Done, Failed}
 use Rattle.access.specs.declared.ending.Error.{Error}
 use Rattle.access.specs.declared.ending.Error.the-variants.{InvalidState, InvalidArgument}
 use Rattle.access.specs.declared.next.Next.{Next}
-use Rattle.access.specs.Endings.{failed, isMet}
+use Rattle.access.specs.Endings.{returned, failed, isMet}
 use Rattle.access.specs.Machine.{isEnd}
 use Rattle.access.specs.Numbers.{nextNumber, HoldsWords}
 use Rattle.access.specs.Record.{Shown, noMore, DifferInPayload, Same, EndsAlike}
+use Rattle.alike.specs.Like.{forgetting}
+use Rattle.errors.specs.AsTheRust.{asTheRust}
 use Rattle.block.specs.Bytes32.{blockSize, Bytes}
 use Rattle.timing.specs.declared.settings.Timed.{Timed}
 use Rattle.timing.specs.declared.settings.Timed.the-variants as timed
 use Rattle.timing.specs.Rust.{timing}
 use Rattle.timing.specs.Claims as timing
 use Rattle.timing.specs.Machine as initMachine
+use Rattle.master.specs.declared.call.Call as transfer
 use Rattle.master.specs.declared.call.Kind.the-variants as kind
 use Rattle.master.specs.Steps as master
-use Rattle.master.specs.Calls.{Lent, lentWith, refuse, refusal, rustWith, spansBy, NoAddedCause}
+use Rattle.master.specs.Calls.{Lent, lentWith, refuse, refusal, rustWith, oursWith, spansBy, NoAddedCause}
 use Rattle.master.specs.Claims.{RunsJoin}
+use Rattle.slave.specs.declared.state.Kind as response
 use Rattle.slave.specs.declared.state.Kind.the-variants.{Listen, RespondToWrite, RespondToRead}
 use Rattle.slave.specs.Init.{initRefusal}
 use Rattle.slave.specs.Init as initSlaveMachine
-use Rattle.slave.specs.Calls.{SlaveLent, sizeOf, sizeRefusal, rustInit, rustSlave}
+use Rattle.slave.specs.Calls.{SlaveLent, sizeOf, sizeRefusal, rustInit, rustSlave, oursSlave}
 use Rattle.slave.specs.Steps as slave
 use Rattle.slave.specs.Claims.{Any}
 use Rattle.slave_driver.specs.Lent as slaveLent
@@ -126,23 +131,41 @@ refusalOf c size room = refuse (not (eqb size blockSize)) InvalidState (refuse (
 abbrev pub Accepted : Call → List ℕ → List ℕ → Type 0
 Accepted c block bytes = refusalOf c (length block) (length bytes) ≡ none
 
--- ---- layer 1
+-- ---- layer 1: its text with the Rust's parts, and with ours
 
--- what layer 1 shows of a call after a list of answers, each loop with so many turns
-abbrev pub rustTimed : ℕ → ℕ → Timed → List ℕ → Shown
-rustTimed chip turns (timed.At t) answers = timing.rustInit (chipOf chip) t turns answers
-rustTimed chip turns (timed.Refused e) answers = noMore (some (failed e))
+-- what is seen of a call after a list of answers, each loop with so many turns. `init` and `init_slave` have no part in which ours differs
+abbrev pub timedShown : ℕ → ℕ → Timed → List ℕ → Shown
+timedShown chip turns (timed.At t) answers = timing.rustInit (chipOf chip) t turns answers
+timedShown chip turns (timed.Refused e) answers = noMore (some (failed e))
+
+abbrev pub layer1 : (ℕ → transfer.Call → Lent → List ℕ → Shown) → (ℕ → Chip → response.Kind → SlaveLent → List ℕ → Shown) → ℕ → Call → ℕ → List ℕ → Shown
+layer1 shownTransfer shownResponse turns (init chip input frequency duty) room answers = timedShown chip turns (timing (chipOf chip) input frequency (dutyOf duty)) answers
+layer1 shownTransfer shownResponse turns (transaction chip address list written) room answers = shownTransfer turns (callOf chip address kind.Transaction) (lentWith list written room) answers
+layer1 shownTransfer shownResponse turns (writeRead chip address written) room answers = shownTransfer turns (callOf chip address kind.WriteRead) (lentWith [] written room) answers
+layer1 shownTransfer shownResponse turns (write chip address option written) room answers = shownTransfer turns (callOf chip address (kind.Write (frameOptionsOf option))) (lentWith [] written 0) answers
+layer1 shownTransfer shownResponse turns (read chip address option) room answers = shownTransfer turns (callOf chip address (kind.Read (frameOptionsOf option))) (lentWith [] [] room) answers
+layer1 shownTransfer shownResponse turns (initSlave ten address has second general stretching) room answers = rustInit turns (configOf ten address has second general stretching) answers
+layer1 shownTransfer shownResponse turns (listen chip) room answers = shownResponse turns (chipOf chip) Listen (slaveLent.lentWith [] 0) answers
+layer1 shownTransfer shownResponse turns (respondToWrite chip) room answers = shownResponse turns (chipOf chip) RespondToWrite (slaveLent.lentWith [] room) answers
+layer1 shownTransfer shownResponse turns (respondToRead chip reply) room answers = shownResponse turns (chipOf chip) RespondToRead (slaveLent.lentWith reply 0) answers
 
 abbrev pub rust : ℕ → Call → ℕ → List ℕ → Shown
-rust turns (init chip input frequency duty) room answers = rustTimed chip turns (timing (chipOf chip) input frequency (dutyOf duty)) answers
-rust turns (transaction chip address list written) room answers = rustWith turns (callOf chip address kind.Transaction) (lentWith list written room) answers
-rust turns (writeRead chip address written) room answers = rustWith turns (callOf chip address kind.WriteRead) (lentWith [] written room) answers
-rust turns (write chip address option written) room answers = rustWith turns (callOf chip address (kind.Write (frameOptionsOf option))) (lentWith [] written 0) answers
-rust turns (read chip address option) room answers = rustWith turns (callOf chip address (kind.Read (frameOptionsOf option))) (lentWith [] [] room) answers
-rust turns (initSlave ten address has second general stretching) room answers = rustInit turns (configOf ten address has second general stretching) answers
-rust turns (listen chip) room answers = rustSlave turns (chipOf chip) Listen (slaveLent.lentWith [] 0) answers
-rust turns (respondToWrite chip) room answers = rustSlave turns (chipOf chip) RespondToWrite (slaveLent.lentWith [] room) answers
-rust turns (respondToRead chip reply) room answers = rustSlave turns (chipOf chip) RespondToRead (slaveLent.lentWith reply 0) answers
+rust = layer1 rustWith rustSlave
+
+abbrev pub ours : ℕ → Call → ℕ → List ℕ → Shown
+ours = layer1 oursWith oursSlave
+
+-- an end of ours as the Rust's: what the Rust lacks is forgotten
+abbrev pub endAsTheRust : Call → Ending → Ending
+endAsTheRust (init chip input frequency duty) e = e
+endAsTheRust (transaction chip address list written) e = asTheRust (chipOf chip) true e
+endAsTheRust (writeRead chip address written) e = asTheRust (chipOf chip) true e
+endAsTheRust (write chip address option written) e = asTheRust (chipOf chip) true e
+endAsTheRust (read chip address option) e = asTheRust (chipOf chip) true e
+endAsTheRust (initSlave ten address has second general stretching) e = e
+endAsTheRust (listen chip) e = asTheRust (chipOf chip) false e
+endAsTheRust (respondToWrite chip) e = asTheRust (chipOf chip) false e
+endAsTheRust (respondToRead chip reply) e = asTheRust (chipOf chip) false e
 
 -- none of the call's own causes that the port adds to the Rust's: 8 at its size, 10 to 14, and 16 for a list
 abbrev pub NoneAdded : Call → ℕ → Type 0
@@ -205,10 +228,15 @@ pub record Demand1 : Type 0 where
 -- ---- demand 2: the Rust's accesses
 
 pub record Demand2 : Type 0 where
-  -- an accepted call makes layer 1's accesses and end, and reads the same bytes, for every list of answers
+  -- an accepted call makes the accesses and the end of our text, and reads the same bytes, for every list of answers
   pub same : (c : Call) (block bytes : List ℕ) → Reads c bytes → Accepted c block bytes → (turns : ℕ) (answers : List ℕ) → length answers < turns
-      → Makes (entryOf c) block bytes answers (rust turns c (length bytes) answers)
-  -- a call that is refused without an added cause is refused by layer 1 with the same error, before any access
+      → Makes (entryOf c) block bytes answers (ours turns c (length bytes) answers)
+  -- for every list of answers the Rust's accesses and bytes are those of our text, and its end is ours with what it lacks forgotten
+  pub as-the-rust : (c : Call) (room turns : ℕ) (answers : List ℕ) → rust turns c room answers ≡ forgetting (endAsTheRust c) (ours turns c room answers)
+  -- nothing is forgotten of an end that no error check decided
+  pub others : (c : Call) (e : Error) → endAsTheRust c (failed e) ≡ failed e
+  pub returns : (c : Call) (v : ℕ) → endAsTheRust c (returned v) ≡ returned v
+  -- a call that is refused without an added cause is refused by the Rust with the same error, before any access
   pub refused : (c : Call) (room : ℕ) → NoneAdded c room → (e : Error) → ownRefusal c room ≡ some e → (turns : ℕ) (answers : List ℕ) → length answers < turns
       → rust turns c room answers ≡ noMore (some (failed e))
   -- embedded-hal's joining
@@ -225,7 +253,7 @@ endAfter c block bytes answers = endIn (handedOut (lefts (entryOf c) block bytes
 
 -- the record with the payload struck out, by layer 1's accesses
 abbrev pub struckAfter : ℕ → Call → List ℕ → List ℕ → List ℕ → List StruckSeen
-struckAfter turns c block bytes answers = struckBy (rust turns c (length bytes) answers .events) (recordAfter c block bytes answers)
+struckAfter turns c block bytes answers = struckBy (ours turns c (length bytes) answers .events) (recordAfter c block bytes answers)
 
 -- two calls, whatever their blocks and the bytes to read into were before: after begin and after each step struck records are equal, and
 -- ends alike. (That records and ends are layer 1's, unstruck as well, is demand 2.)
@@ -258,14 +286,14 @@ writtenBy (respondToRead chip reply) = reply
 pub record Demand3 : Type 0 where
   -- transfers; answers that differ only where the first call owes a payload read
   pub transfers : (c₁ c₂ : Call) (b₁ r₁ b₂ r₂ : List ℕ) → SameRuns c₁ (length r₁) c₂ (length r₂) → Reads c₁ r₁ → Reads c₂ r₂ → Accepted c₁ b₁ r₁ → Accepted c₂ b₂ r₂
-      → (turns : ℕ) (xs ys : List ℕ) → length xs < turns → length ys < turns → DifferInPayload (rust turns c₁ (length r₁) xs .events) xs ys
+      → (turns : ℕ) (xs ys : List ℕ) → length xs < turns → length ys < turns → DifferInPayload (ours turns c₁ (length r₁) xs .events) xs ys
       → SeenAlike Same turns c₁ c₂ b₁ r₁ b₂ r₂ xs ys
   -- the payloads agree too, written and answered: unstruck records are equal
   pub transfers-whole : (c₁ c₂ : Call) (b₁ r₁ b₂ r₂ : List ℕ) → SameRuns c₁ (length r₁) c₂ (length r₂) → Reads c₁ r₁ → Reads c₂ r₂ → Accepted c₁ b₁ r₁ → Accepted c₂ b₂ r₂
       → writtenBy c₁ ≡ writtenBy c₂ → (answers : List ℕ) → recordAfter c₁ b₁ r₁ answers ≡ recordAfter c₂ b₂ r₂ answers
   -- receives of one chip and buffer length
   pub receives : (chip : ℕ) (b₁ r₁ b₂ r₂ : List ℕ) → length r₁ ≡ length r₂ → Accepted (respondToWrite chip) b₁ r₁ → Accepted (respondToWrite chip) b₂ r₂
-      → (turns : ℕ) (xs ys : List ℕ) → length xs < turns → length ys < turns → DifferInPayload (rust turns (respondToWrite chip) (length r₁) xs .events) xs ys
+      → (turns : ℕ) (xs ys : List ℕ) → length xs < turns → length ys < turns → DifferInPayload (ours turns (respondToWrite chip) (length r₁) xs .events) xs ys
       → SeenAlike Same turns (respondToWrite chip) (respondToWrite chip) b₁ r₁ b₂ r₂ xs ys
   pub receives-whole : (chip : ℕ) (b₁ r₁ b₂ r₂ : List ℕ) → length r₁ ≡ length r₂ → Accepted (respondToWrite chip) b₁ r₁ → Accepted (respondToWrite chip) b₂ r₂
       → (answers : List ℕ) → recordAfter (respondToWrite chip) b₁ r₁ answers ≡ recordAfter (respondToWrite chip) b₂ r₂ answers

@@ -1,2 +1,4 @@
 pub mod Classes
+pub mod Check
+pub mod AsTheRust
 pub mod Edges

@@ -1,4 +1,6 @@
 // The class of a status word: the first error flag that is set decides. Master and slave share it.
+pub mod rust;
+
 ghost use mathlib.Core.Path.{_≡_};
 ghost use Rattle.errors.specs.Classes.{errorOf};
 use access::Error;

@@ -32,13 +32,14 @@ use Rattle.master.specs.declared.call.Kind.{Kind}
 use Rattle.master.specs.declared.call.Kind.the-variants as kind
 use Rattle.master.specs.declared.call.Call.{Call}
 use Rattle.master.specs.Rust as rust
+use Rattle.master.specs.Ours as ours
 use Rattle.master.specs.Joined.{Joined, JW, JR, framed, joined, runs-program}
 use Rattle.master.specs.Machine.{Shape, counted, fresh, master, start, owed}
-use Rattle.master.specs.Calls.{Lent, cut, refuse, orNext, mismatch, refusalAt, refusal, InForm, NoAddedCause, Accepted, shapeOf, seenAfter, callShown, rustWith}
-use Rattle.master.specs.Claims.{MasterIsTheRust, RunsJoin}
+use Rattle.master.specs.Calls.{Lent, cut, refuse, orNext, mismatch, refusalAt, refusal, InForm, NoAddedCause, Accepted, shapeOf, seenAfter, callShown, oursWith}
+use Rattle.master.specs.Claims.{MasterIsOurs}
 use Rattle.master.proofs.Counts.{positive, suc-of}
 use Rattle.master.proofs.MasterAgrees.{write-bytes-agrees, blocking-read-iter-agrees}
-use Rattle.master.proofs.Joining.{transaction-joins}
+use Rattle.master.proofs.Joining.{seven-bits, transaction-joins}
 use Rattle.master.proofs.LentLaws.{spanJ, bytesJ, FilledJ, list-spans, list-bytes, list-filled, verdict, validate-operations-agrees, fault-free-filled}
 use Rattle.master.proofs.RunsAgree.{resumes, runs-agree}
 
@@ -73,15 +74,15 @@ list-refused c l answers (some e) next p f = refl
 
 -- the refusals of the Rust's frames
 module _ (chip : Chip) (address : ℕ) (f : Frame) (n : ℕ) where
-  write-refuses : (bs : List ℕ) (m : Unit {0} → Program) → ltb 0x7f address ≡ true → rust.write-bytes chip address bs f n h m ≡ h (failureOf InvalidAddress)
+  write-refuses : (bs : List ℕ) (m : Unit {0} → Program) → ltb 0x7f address ≡ true → ours.write-bytes chip address bs f n h m ≡ h (failureOf InvalidAddress)
   unfolding rust.write-bytes rust.validate-address
   write-refuses bs m e = rw e
 
-  read-refuses : (size : ℕ) → ltb 0x7f address ≡ true → rust.blocking-read-iter chip address size f n h k ≡ h (failureOf InvalidAddress)
+  read-refuses : (size : ℕ) → ltb 0x7f address ≡ true → ours.blocking-read-iter chip address size f n h k ≡ h (failureOf InvalidAddress)
   unfolding rust.blocking-read-iter rust.validate-address
   read-refuses size e = rw e
 
-  read-refuses-empty : (size : ℕ) → ltb 0x7f address ≡ false → eqb size 0 ≡ true → rust.blocking-read-iter chip address size f n h k ≡ h (failureOf Overrun)
+  read-refuses-empty : (size : ℕ) → ltb 0x7f address ≡ false → eqb size 0 ≡ true → ours.blocking-read-iter chip address size f n h k ≡ h (failureOf Overrun)
   unfolding rust.blocking-read-iter rust.validate-address
   read-refuses-empty size ok e = rw (ok, e)
 
@@ -105,15 +106,15 @@ module _ (chip : Chip) (address : ℕ) (l : Lent) (n : ℕ) (answers : List ℕ)
         go (JR m ∷ js) = refl
 
     runs-shown : bytesJ js ≡ l .written → FilledJ js → length js ≤ 65536 → readSum (map spanJ js) ≤ 65535
-        → shownFrom (master (runsShape (map spanJ js))) (l .written) (start (runsShape (map spanJ js))) answers ≡ shownOf 0 (runs-program chip address js n h k) answers
+        → shownFrom (master (runsShape (map spanJ js))) (l .written) (start (runsShape (map spanJ js))) answers ≡ shownOf 0 (runs-program chip (ours.ours chip) address js n h k) answers
     runs-shown bytes filled few small =
         ap (λ s. shownFrom (master (runsShape (map spanJ js))) (l .written) s answers) starts
         ∙ runs-agree chip address ok (map spanJ js) (l .written) short js n 0 0 0 fresh
         (record { number = refl; ending = refl; list = λ k. ap (λ (x : ℕ). runAt (map spanJ js) x) (zero-add k); left = sym bytes; filled = filled; few = omega arith; small = omega arith })
         .same answers enough
 
-  blocking-write-read-agrees : NoAddedCause kind.WriteRead l → callShown (call kind.WriteRead) l answers ≡ rustWith n (call kind.WriteRead) l answers
-  unfolding callShown refusal rustWith rust.blocking-write-read rust.blocking-read-timeout runs-program
+  blocking-write-read-agrees : NoAddedCause kind.WriteRead l → callShown (call kind.WriteRead) l answers ≡ oursWith n (call kind.WriteRead) l answers
+  unfolding callShown refusal oursWith rust.blocking-write-read rust.blocking-read-timeout runs-program
   blocking-write-read-agrees small =
       refused-first (call kind.WriteRead) l answers (eqb (l .room) 0) Overrun _ _ (λ e.
       refused-as (call kind.WriteRead) l answers (ltb 0x7f address) InvalidAddress _ _ (write-refuses chip address (framed true false) n (l .written) _) (λ ok.
@@ -152,14 +153,14 @@ module _ (chip : Chip) (address : ℕ) (l : Lent) (n : ℕ) (answers : List ℕ)
 
     -- what an accepted list comes to
     list-shown : ltb 0x7f address ≡ false → faultFrom 0 (l .list) ≡ none
-        → seenAfter none (call kind.Transaction) l answers ≡ shownOf 0 (rust.transact chip address (length (cut operations (l .written))) (cut operations (l .written)) n h k) answers
+        → seenAfter none (call kind.Transaction) l answers ≡ shownOf 0 (ours.transact chip address (length (cut operations (l .written))) (cut operations (l .written)) n h k) answers
     list-shown ok clean =
         ap (λ (runs : List Span). shownFrom (master (runsShape js ok short runs)) (l .written) (start (runsShape js ok short runs)) answers) (sym spans)
         ∙ runs-shown js ok short (list-bytes operations (l .written) written-is) (list-filled operations (l .written) (fault-free-filled (l .list) 0 clean)) few small
-        ∙ ap (λ p. shownOf 0 p answers) (sym (transaction-joins chip address ok n h k (length (cut operations (l .written))) (cut operations (l .written)) (omega arith)))
+        ∙ ap (λ p. shownOf 0 p answers) (sym (transaction-joins chip (ours.ours chip) address (seven-bits chip address ok) n h k (length (cut operations (l .written))) (cut operations (l .written)) (omega arith)))
 
-    blocking-transaction-agrees : callShown (call kind.Transaction) l answers ≡ rustWith n (call kind.Transaction) l answers
-    unfolding callShown refusal rustWith rust.blocking-transaction rust.validate-address rust.validate-operations
+    blocking-transaction-agrees : callShown (call kind.Transaction) l answers ≡ oursWith n (call kind.Transaction) l answers
+    unfolding callShown refusal oursWith rust.blocking-transaction rust.validate-address rust.validate-operations
     blocking-transaction-agrees =
         not-refused (call kind.Transaction) l answers _ InvalidArgument _ _ (ap not (f .shape))
         (refused-first (call kind.Transaction) l answers (ltb 0x7f address) InvalidAddress _ _ (λ ok.
@@ -170,22 +171,22 @@ module _ (chip : Chip) (address : ℕ) (l : Lent) (n : ℕ) (answers : List ℕ)
 
   -- ---- frames
 
-  blocking-write-agrees : (o : FrameOptions) → NoAddedCause (kind.Write o) l → callShown (call (kind.Write o)) l answers ≡ rustWith n (call (kind.Write o)) l answers
-  unfolding callShown refusal rustWith runFrom owed
+  blocking-write-agrees : (o : FrameOptions) → NoAddedCause (kind.Write o) l → callShown (call (kind.Write o)) l answers ≡ oursWith n (call (kind.Write o)) l answers
+  unfolding callShown refusal oursWith runFrom owed
   blocking-write-agrees o small =
       refused-as (call (kind.Write o)) l answers (ltb 0x7f address) InvalidAddress _ _ (write-refuses chip address (rust.frame o) n (l .written) k) (λ ok.
       not-refused (call (kind.Write o)) l answers _ BufferTooLong none _ (le-ltb 65535 (length (l .written)) small)
       (write-bytes-agrees (shapeOf (call (kind.Write o)) l) (l .written) ok n 0 k (l .written) [] 0 fresh refl small (sym (append-nil (l .written))) (λ v q _. ends done refl) .same answers enough))
 
   read-shown : (o : FrameOptions) → ltb 0x7f address ≡ false → l .room ≤ 65535 → (m : ℕ) → l .room ≡ suc m
-      → seenAfter none (call (kind.Read o)) l answers ≡ shownOf 0 (rust.blocking-read-iter chip address (l .room) (rust.frame o) n h k) answers
+      → seenAfter none (call (kind.Read o)) l answers ≡ shownOf 0 (ours.blocking-read-iter chip address (l .room) (rust.frame o) n h k) answers
   unfolding runFrom owed
   read-shown o ok small m e =
       blocking-read-iter-agrees (shapeOf (call (kind.Read o)) l) (l .written) ok n 0 k m fresh (ap (λ (x : ℕ). counted true x 0 fresh) e) (omega arith) (λ v. ends done refl) .same answers enough
-      ∙ ap (λ (x : ℕ). shownOf 0 (rust.blocking-read-iter chip address x (rust.frame o) n h k) answers) (sym e)
+      ∙ ap (λ (x : ℕ). shownOf 0 (ours.blocking-read-iter chip address x (rust.frame o) n h k) answers) (sym e)
 
-  blocking-read-agrees : (o : FrameOptions) → NoAddedCause (kind.Read o) l → callShown (call (kind.Read o)) l answers ≡ rustWith n (call (kind.Read o)) l answers
-  unfolding callShown refusal rustWith rust.blocking-read-timeout
+  blocking-read-agrees : (o : FrameOptions) → NoAddedCause (kind.Read o) l → callShown (call (kind.Read o)) l answers ≡ oursWith n (call (kind.Read o)) l answers
+  unfolding callShown refusal oursWith rust.blocking-read-timeout
   blocking-read-agrees o small =
       refused-as (call (kind.Read o)) l answers (ltb 0x7f address) InvalidAddress _ _ (read-refuses chip address (rust.frame o) n (l .room)) (λ ok.
       refused-as (call (kind.Read o)) l answers (eqb (l .room) 0) Overrun _ _ (read-refuses-empty chip address (rust.frame o) n (l .room) ok) (λ e.
@@ -195,7 +196,7 @@ module _ (chip : Chip) (address : ℕ) (l : Lent) (n : ℕ) (answers : List ℕ)
 -- ---- the master is the Rust
 
 same-by-kind : (chip : Chip) (address : ℕ) (x : Kind) (l : Lent) → NoAddedCause x l → (turns : ℕ) (answers : List ℕ) → length answers < turns
-    → callShown (record { chip = chip; address = address; kind = x }) l answers ≡ rustWith turns (record { chip = chip; address = address; kind = x }) l answers
+    → callShown (record { chip = chip; address = address; kind = x }) l answers ≡ oursWith turns (record { chip = chip; address = address; kind = x }) l answers
 same-by-kind chip address kind.Transaction l f turns answers q = blocking-transaction-agrees chip address l turns answers q f
 same-by-kind chip address kind.WriteRead l f turns answers q = blocking-write-read-agrees chip address l turns answers q f
 same-by-kind chip address (kind.Write o) l f turns answers q = blocking-write-agrees chip address l turns answers q o f
@@ -261,12 +262,9 @@ accepted-covered : (c : Call) (l : Lent) → Accepted c l → NoAddedCause (c .k
 unfolding refusal
 accepted-covered c l q = covered (c .address) (c .kind) l q
 
-pub master-is-the-rust : MasterIsTheRust
-master-is-the-rust =
+pub master-is-ours : MasterIsOurs
+master-is-ours =
     record {
       same = λ c l. same-by-kind (c .chip) (c .address) (c .kind) l;
       covers = accepted-covered;
     }
-
-pub runs-join : RunsJoin
-runs-join chip address ok turns h k operations = transaction-joins chip address ok turns h k (length operations) operations (omega arith)

@@ -20,11 +20,13 @@ use Rattle.operations.specs.Operations.{operationsOf, shaped}
 use Rattle.operations.specs.Runs.{span, runsFrom, runsOf, runFrom}
 use Rattle.operations.specs.Search.{faultFrom}
 use Rattle.errors.specs.Classes.{errorOf}
+use Rattle.errors.specs.Check.{check-errors}
 use Rattle.master.specs.declared.call.Kind.the-variants as kind
 use Rattle.master.specs.declared.call.Call.{Call}
 use Rattle.master.specs.Rust as rust
+use Rattle.master.specs.Ours as ours
 use Rattle.master.specs.Machine.{owed, advance}
-use Rattle.master.specs.Calls.{Lent, refusal, spansOf, callShown, rustWith}
+use Rattle.master.specs.Calls.{Lent, refusal, spansOf, callShown, rustWith, oursWith}
 use Rattle.master.specs.Claims.{Comparable}
 use Rattle.master.proofs.Secret.{master-is-secret}
 
@@ -59,9 +61,13 @@ in-layer-2 : callShown call emptyWrite given ≡ expected
 unfolding callShown refusal shaped faultFrom operationsOf runsOf runsFrom runFrom owed advance hasBit putBit fieldOf putField errorFlags clearError addressWord errorOf late
 in-layer-2 = refl
 
-in-layer-1 : rustWith 18 call emptyWrite given ≡ expected
+in-the-rust : rustWith 18 call emptyWrite given ≡ expected
 unfolding rustWith operationsOf rust.blocking-transaction rust.validate-address rust.validate-operations rust.validate-from rust.transact rust.write-group rust.write-bytes rust.start-and-address rust.launch-start rust.wait-stop-finished rust.wait-flag rust.check-and-clear-error-flags rust.abort-transfer rust.finish-transfer rust.generate-stop rust.checked-add hasBit putBit fieldOf putField errorFlags clearError addressWord checkTimeout late
-in-layer-1 = refl
+in-the-rust = refl
+
+in-ours : oursWith 18 call emptyWrite given ≡ expected
+unfolding oursWith operationsOf rust.blocking-transaction rust.validate-address rust.validate-operations rust.validate-from rust.transact rust.write-group rust.write-bytes rust.start-and-address rust.launch-start rust.wait-stop-finished rust.wait-flag ours.check-and-clear-error-flags check-errors errorOf rust.abort-transfer rust.finish-transfer rust.generate-stop rust.checked-add hasBit putBit fieldOf putField errorFlags clearError addressWord checkTimeout late
+in-ours = refl
 
 -- ---- the same runs, divided differently
 

@@ -16,9 +16,13 @@ use Rattle.access.specs.declared.ending.Error.the-variants.{InvalidAddress}
 use Rattle.access.specs.declared.ending.Failure.{Failure}
 use Rattle.access.specs.Endings.{failureOf}
 use Rattle.access.specs.Program.{Program, access, read, write, Blocking, forEach, _>>_}
+use Rattle.master.specs.declared.call.Frame.{Frame}
 use Rattle.master.specs.declared.call.FrameOptions.the-variants.{FirstAndLastFrame, FirstFrame}
-use Rattle.master.specs.Rust.{Operation, Write, Read, isEmpty, frame, frameOf, validate-address, abort-transfer, wait-stop-finished, send-byte, write-bytes, blocking-read-iter, groupOf, restOf, buffersOf, lengthsOf, sum, write-group, transact}
+use Rattle.master.specs.Rust as text
+use Rattle.master.specs.Rust.{Operation, Write, Read, Parts, theRust, isEmpty, frame, frameOf, validate-address, abort-transfer, wait-stop-finished, groupOf, restOf, buffersOf, lengthsOf, sum}
+use Rattle.master.specs.Ours.{ours}
 use Rattle.master.specs.Joined.{JW, JR, framed, joinW, joinR, joined, runs-program}
+use Rattle.master.specs.Claims.{Passes, RunsJoin}
 
 concat : List (List ℕ) → List ℕ
 concat [] = []
@@ -44,39 +48,6 @@ stop-of false false = refl
 read-frame : (b : Bool) → frame (cond b FirstAndLastFrame FirstFrame) ≡ framed true b
 read-frame true = refl
 read-frame false = refl
-
-module _ (chip : Chip) (addr : ℕ) (ok : ltb 0x7f addr ≡ false) (n : ℕ) (h : Failure → Program) where
-  -- a write asks START and STOP alone
-  frame-same : (bs : List ℕ) (a b : Bool) (k : Unit {0} → Program) → write-bytes chip addr bs (frame (frameOf a b)) n h k ≡ write-bytes chip addr bs (framed a b) n h k
-  unfolding write-bytes
-  frame-same bs a b k = λ i. write-bytes chip addr bs (framed (start-of a b i) (stop-of a b i)) n h k
-
-  -- two frames of one run are one frame of the joined bytes
-  two-frames : (first last : Bool) (b c : List ℕ) (k : Unit {0} → Program)
-      → write-bytes chip addr b (framed first false) n h (λ _. write-bytes chip addr c (framed false last) n h k)
-      ≡ write-bytes chip addr (b ++ c) (framed first last) n h k
-  unfolding write-bytes validate-address
-  two-frames first last b c k = λ i. write-bytes chip addr [] (framed first false) n h (λ _. both i)
-    where
-      h′ : Failure → Program
-      h′ x = abort-transfer chip n h (λ _. h x)
-
-      stop : Unit {0} → Program
-      stop _ = cond last (access (read Ctlr1) (λ w. access (write Ctlr1 (putBit STOP true w)) (λ _. wait-stop-finished chip n h′ k))) (k tt)
-
-      both : forEach b (send-byte chip) n h′ (λ _. cond (ltb 0x7f addr) (h (failureOf InvalidAddress)) (forEach c (send-byte chip) n h′ stop)) ≡ forEach (b ++ c) (send-byte chip) n h′ stop
-      both = (λ i. forEach b (send-byte chip) n h′ (λ _. cond (ok i) (h (failureOf InvalidAddress)) (forEach c (send-byte chip) n h′ stop))) ∙ each-append b c (send-byte chip) n h′ stop
-
-  group-joins : (first last : Bool) (b : List ℕ) (g : List (List ℕ)) (k : Unit {0} → Program)
-      → write-group chip addr first (b ∷ g) last n h k ≡ write-bytes chip addr (b ++ concat g) (framed first last) n h k
-  unfolding write-group concat
-  group-joins first last b [] k =
-      frame-same b first (last && true) _
-      ∙ (λ i. write-bytes chip addr (sym (append-nil b) i) (framed first (and-true last i)) n h k)
-  group-joins first last b (c ∷ g) k =
-      frame-same b first (last && false) _
-      ∙ (λ i. write-bytes chip addr b (framed first (and-false last i)) n h (λ _. group-joins false last c g k i))
-      ∙ two-frames first last b (c ++ concat g) k
 
 -- a run of joined operations is a group of the Rust's, joined
 writes-group : (bs : List ℕ) (ops : List Operation) → joinW bs ops ≡ JW (bs ++ concat (buffersOf (groupOf false ops))) ∷ joined (restOf false ops)
@@ -104,19 +75,80 @@ rest-shorter true (Read m ∷ ops) = omega (arith, rest-shorter true ops)
 rest-shorter false (Write b ∷ ops) = omega (arith, rest-shorter false ops)
 rest-shorter false (Read m ∷ ops) = omega arith
 
-pub transaction-joins : (chip : Chip) (addr : ℕ) → ltb 0x7f addr ≡ false → (n : ℕ) (h : Failure → Program) (k : Unit {0} → Program) (turns : ℕ) (ops : List Operation)
-    → length ops ≤ turns → transact chip addr turns ops n h k ≡ runs-program chip addr (joined ops) n h k
-unfolding transact runs-program joined
-transaction-joins chip addr ok n h k zero [] le = refl
-transaction-joins chip addr ok n h k zero (op ∷ ops) le = absurd (not-suc-le-zero le)
-transaction-joins chip addr ok n h k (suc f) [] le = refl
-transaction-joins chip addr ok n h k (suc f) (Write b ∷ ops) le =
-    group-joins chip addr ok n h true (isEmpty (restOf false ops)) b (buffersOf (groupOf false ops)) (λ _. transact chip addr f (restOf false ops) n h k)
-    ∙ (λ i. write-bytes chip addr (b ++ concat (buffersOf (groupOf false ops))) (framed true (nil-joined (restOf false ops) i)) n h
-    (λ _. transaction-joins chip addr ok n h k f (restOf false ops) (omega (arith, rest-shorter false ops)) i))
-    ∙ ap (λ js. runs-program chip addr js n h k) (sym (writes-group b ops))
-transaction-joins chip addr ok n h k (suc f) (Read m ∷ ops) le =
-    (λ i. blocking-read-iter chip addr (m + sum (lengthsOf (groupOf true ops))) (read-frame (isEmpty (restOf true ops)) i) n h (λ _. transact chip addr f (restOf true ops) n h k))
-    ∙ (λ i. blocking-read-iter chip addr (m + sum (lengthsOf (groupOf true ops))) (framed true (nil-joined (restOf true ops) i)) n h
-    (λ _. transaction-joins chip addr ok n h k f (restOf true ops) (omega (arith, rest-shorter true ops)) i))
-    ∙ ap (λ js. runs-program chip addr js n h k) (sym (reads-group m ops))
+module _ (chip : Chip) (p : Parts) where
+  -- the text with these parts
+  abbrev send-byte : ℕ → Blocking (Unit {0})
+  send-byte = text.send-byte chip (p .check)
+
+  abbrev write-bytes : ℕ → List ℕ → Frame → Blocking (Unit {0})
+  write-bytes = text.write-bytes chip (p .check) (p .validate) (p .start)
+
+  abbrev blocking-read-iter : ℕ → ℕ → Frame → Blocking (Unit {0})
+  blocking-read-iter = text.blocking-read-iter chip (p .check) (p .validate) (p .start)
+
+  abbrev write-group : ℕ → Bool → List (List ℕ) → Bool → Blocking (Unit {0})
+  write-group = text.write-group chip (p .check) (p .validate) (p .start)
+
+  abbrev transact : ℕ → ℕ → List Operation → Blocking (Unit {0})
+  transact = text.transact chip (p .check) (p .validate) (p .start)
+
+  module _ (addr : ℕ) (ok : Passes p addr) (n : ℕ) (h : Failure → Program) where
+    -- a write asks START and STOP alone
+    frame-same : (bs : List ℕ) (a b : Bool) (k : Unit {0} → Program) → write-bytes addr bs (frame (frameOf a b)) n h k ≡ write-bytes addr bs (framed a b) n h k
+    unfolding text.write-bytes
+    frame-same bs a b k = λ i. write-bytes addr bs (framed (start-of a b i) (stop-of a b i)) n h k
+
+    -- two frames of one run are one frame of the joined bytes
+    two-frames : (first last : Bool) (b c : List ℕ) (k : Unit {0} → Program)
+        → write-bytes addr b (framed first false) n h (λ _. write-bytes addr c (framed false last) n h k) ≡ write-bytes addr (b ++ c) (framed first last) n h k
+    unfolding text.write-bytes
+    two-frames first last b c k = λ i. write-bytes addr [] (framed first false) n h (λ _. both i)
+      where
+        h′ : Failure → Program
+        h′ x = abort-transfer chip n h (λ _. h x)
+
+        stop : Unit {0} → Program
+        stop _ = cond last (access (read Ctlr1) (λ w. access (write Ctlr1 (putBit STOP true w)) (λ _. wait-stop-finished chip n h′ k))) (k tt)
+
+        both : forEach b send-byte n h′ (λ _. p .validate addr n h (λ _. forEach c send-byte n h′ stop)) ≡ forEach (b ++ c) send-byte n h′ stop
+        both = (λ i. forEach b send-byte n h′ (λ _. ok n h (λ _. forEach c send-byte n h′ stop) i)) ∙ each-append b c send-byte n h′ stop
+
+    group-joins : (first last : Bool) (b : List ℕ) (g : List (List ℕ)) (k : Unit {0} → Program)
+        → write-group addr first (b ∷ g) last n h k ≡ write-bytes addr (b ++ concat g) (framed first last) n h k
+    unfolding text.write-group concat
+    group-joins first last b [] k =
+        frame-same b first (last && true) _
+        ∙ (λ i. write-bytes addr (sym (append-nil b) i) (framed first (and-true last i)) n h k)
+    group-joins first last b (c ∷ g) k =
+        frame-same b first (last && false) _
+        ∙ (λ i. write-bytes addr b (framed first (and-false last i)) n h (λ _. group-joins false last c g k i))
+        ∙ two-frames first last b (c ++ concat g) k
+
+    pub transaction-joins : (k : Unit {0} → Program) (turns : ℕ) (ops : List Operation) → length ops ≤ turns → transact addr turns ops n h k ≡ runs-program chip p addr (joined ops) n h k
+    unfolding text.transact runs-program joined
+    transaction-joins k zero [] le = refl
+    transaction-joins k zero (op ∷ ops) le = absurd (not-suc-le-zero le)
+    transaction-joins k (suc f) [] le = refl
+    transaction-joins k (suc f) (Write b ∷ ops) le =
+        group-joins true (isEmpty (restOf false ops)) b (buffersOf (groupOf false ops)) (λ _. transact addr f (restOf false ops) n h k)
+        ∙ (λ i. write-bytes addr (b ++ concat (buffersOf (groupOf false ops))) (framed true (nil-joined (restOf false ops) i)) n h
+        (λ _. transaction-joins k f (restOf false ops) (omega (arith, rest-shorter false ops)) i))
+        ∙ ap (λ js. runs-program chip p addr js n h k) (sym (writes-group b ops))
+    transaction-joins k (suc f) (Read m ∷ ops) le =
+        (λ i. blocking-read-iter addr (m + sum (lengthsOf (groupOf true ops))) (read-frame (isEmpty (restOf true ops)) i) n h (λ _. transact addr f (restOf true ops) n h k))
+        ∙ (λ i. blocking-read-iter addr (m + sum (lengthsOf (groupOf true ops))) (framed true (nil-joined (restOf true ops) i)) n h
+        (λ _. transaction-joins k f (restOf true ops) (omega (arith, rest-shorter true ops)) i))
+        ∙ ap (λ js. runs-program chip p addr js n h k) (sym (reads-group m ops))
+
+-- an address of seven bits passes
+pub seven-bits : (chip : Chip) (address : ℕ) → ltb 0x7f address ≡ false → Passes (theRust chip) address
+unfolding validate-address
+seven-bits chip address e n h k = ap (λ (b : Bool). cond b (h (failureOf InvalidAddress)) (k tt)) e
+
+pub runs-join : RunsJoin
+runs-join =
+    record {
+      rust-passes = seven-bits;
+      ours-passes = seven-bits;
+      joins = λ chip p address ok turns h k operations. transaction-joins chip p address ok turns h k (length operations) operations (omega arith);
+    }

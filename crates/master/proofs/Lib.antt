@@ -4,6 +4,8 @@ pub mod Joining
 pub mod LentLaws
 pub mod RunsAgree
 pub mod CallAgrees
+pub mod TextAlike
+pub mod OursIsTheRust
 pub mod Secret
 pub mod FitsKept
 pub mod AcceptedFits

@@ -27,7 +27,8 @@ use Rattle.access.proofs.Agreement.{Agree, no-answers, weaken, ends, reads-firs
 use Rattle.errors.specs.declared.Checked.{Checked}
 use Rattle.errors.specs.declared.Checked.the-variants as checked
 use Rattle.errors.specs.Classes.{errorOf, decided}
-use Rattle.errors.proofs.ClassLaws.{by-class, no-flags}
+use Rattle.errors.specs.Check.{check-errors}
+use Rattle.errors.proofs.ClassLaws.{no-flags}
 use Rattle.operations.specs.declared.search.Run.{Run}
 use Rattle.master.specs.declared.call.Frame.{Frame}
 use Rattle.master.specs.declared.stage.Fall.{Fall}
@@ -44,7 +45,9 @@ use Rattle.master.specs.declared.stage.AbortStage.the-variants as abort
 use Rattle.master.specs.declared.stage.Stage.the-variants.{Begin, WaitStop, LaunchStart, Wait, Address, RecvByte, ReadIter, Abort, Ended}
 use Rattle.master.specs.declared.state.Progress.{Progress}
 use Rattle.master.specs.declared.state.Move.{Move}
-use Rattle.master.specs.Rust.{generate-stop, finish-transfer, abort-transfer, validate-address, wait-stop-finished, launch-start, check-and-clear-error-flags, wait-flag, send-byte, start-and-address, write-bytes, recv-byte, wait-btf, recv-next, take-next, recv-all, recv-above-3, blocking-read-iter}
+use Rattle.master.specs.Rust as text
+use Rattle.master.specs.Rust.{generate-stop, finish-transfer, abort-transfer, validate-address, wait-stop-finished, launch-start}
+use Rattle.master.specs.Ours.{check-and-clear-error-flags, wait-flag, send-byte, start-and-address, write-bytes, recv-byte, recv-next, take-next, recv-all, recv-above-3, blocking-read-iter}
 use Rattle.master.specs.Machine.{to, saves, savesDivider, savesRise, endsWith, counted, begun, fails, isSet, stopsHere, continues, finished, writeBytes, readBytes, waited, tests, fallen, begins, Shape, runOf, owed, advance, master}
 use Rattle.master.proofs.Counts.{next-place}
 
@@ -173,12 +176,11 @@ module _ (sh : Shape) (bytes : List ℕ) where
   pub check-and-clear-error-flags-agrees : (m n at : ℕ) (f : Flag) (h : Failure → Program) (k : ℕ → Program) (d : Progress) → Handles m h
       → ((a v : ℕ) → Ag m at (k a) (tests (sh .setting) (run d) f (saves v d) a))
       → Ag (suc m) at (check-and-clear-error-flags chip n h k) (to (Wait f wait.Status) d)
-  unfolding check-and-clear-error-flags owed advance
+  unfolding check-and-clear-error-flags check-errors owed advance
   check-and-clear-error-flags-agrees m n at f h k d H K =
       reads-first refl (λ a. cases-with (not (eqb (errorFlags a) 0))
-      (λ _. writes refl (λ _. program-is (by-class chip true a (λ e. h (failureOf e)) (k a)) (judged-agrees m at (errorOf chip true a) h (k a) (saves a d) _ H (K a a))))
-      (λ clear. program-is (by-class chip true a (λ e. h (failureOf e)) (k a) ∙ ap (λ c. decided c (λ e. h (failureOf e)) (k a)) (no-flags chip true a (eqb-true _ _ (not-false _ clear))))
-      (K a (d .word))))
+      (λ _. writes refl (λ _. judged-agrees m at (errorOf chip true a) h (k a) (saves a d) _ H (K a a)))
+      (λ clear. program-is (ap (λ c. decided c (λ e. h (failureOf e)) (k a)) (no-flags chip true a (eqb-true _ _ (not-false _ clear)))) (K a (d .word))))
 
   -- ---- the waits
 
@@ -196,7 +198,7 @@ module _ (sh : Shape) (bytes : List ℕ) where
 
   pub wait-flag-agrees : (n at bit : ℕ) (f : Flag) → ((w : ℕ) → isSet f w ≡ hasBit bit w) → (h : Failure → Program) (k : Unit {0} → Program) (d : Progress) → Handles n h
       → ((v : ℕ) → Ag n at (k tt) (waited (sh .setting) (run d) f (saves v d))) → Ag n at (wait-flag chip bit n h k) (to (Wait f wait.Status) d)
-  unfolding wait-flag checkTimeout
+  unfolding text.wait-flag checkTimeout
   wait-flag-agrees n at bit f same h k d H K = flag-turns n n at bit f same h (k tt) d H K
 
   -- ---- from START to ADDR
@@ -227,7 +229,7 @@ module _ (sh : Shape) (bytes : List ℕ) where
   pub send-byte-agrees : (n at b l p : ℕ) (h : Failure → Program) (k : Unit {0} → Program) (d : Progress) → getD bytes p 0 ≡ b → p < 65535 → Handles n h
       → ((v : ℕ) → Ag n at (k tt) (writeBytes (sh .setting) (run d) (counted false l (suc p) (saves v d))))
       → Ag n at (send-byte chip b n h k) (to (Wait Txe wait.Status) (counted false (suc l) p d))
-  unfolding send-byte owed advance
+  unfolding text.send-byte owed advance
   send-byte-agrees n at b l p h k d q low H K =
       wait-flag-agrees n at TXE Txe (λ w. refl) h _ (counted false (suc l) p d) H (λ v. sends p refl q
       (λ _. wait-flag-agrees n at BTF Sent (λ w. refl) h _ (counted false (suc l) p (saves v d)) H (λ u.
@@ -270,7 +272,7 @@ module _ (sh : Shape) (bytes : List ℕ) where
       → ((v q : ℕ) → drop q bytes ≡ tail → Ag n at (k tt) (continues (run d) (counted false 0 q (saves v d))))
       → Ag n at (write-bytes chip (sh .setting .address) bs (frameIn d) n (λ x. finish (Failed x)) k)
       (cond (sh .setting .frame .«send_start») (to Begin d) (writeBytes (sh .setting) (run d) (counted false (length bs) p d)))
-  unfolding write-bytes validate-address start-and-address launch-start started owed advance
+  unfolding text.write-bytes validate-address text.start-and-address launch-start started owed advance
   write-bytes-agrees ok n at k bs tail p d q short e K =
       passes _ ok (cases (sh .setting .frame .«send_start»)
       (begin-stop-agrees n at (length bs) p h _ d q H (start-and-address-agrees n at h _ (counted false (length bs) p d) H (λ v. reads refl (λ _. bytes-agree n at h _ bs tail p (saves v d) short e H close))))
@@ -304,7 +306,7 @@ module _ (sh : Shape) (bytes : List ℕ) where
   pub recv-next-agrees : (n at l : ℕ) (h : Failure → Program) (k : Unit {0} → Program) (d : Progress) → at < 65535 → Handles n h
       → ((v : ℕ) → Ag n (suc at) (k tt) (readBytes (sh .setting) (run d) (counted true l (suc at) (saves v d))))
       → Ag n at (recv-next chip n h k) (to (Wait Rxne wait.Status) (counted true (suc l) at d))
-  unfolding recv-next recv-byte checkTimeout owed advance
+  unfolding text.recv-next text.recv-byte checkTimeout owed advance
   recv-next-agrees n at l h k d low H K =
       rx-turns n n at h (access (read Datar) (λ a. keep (a % 256) (k tt))) (counted true (suc l) at d) H (λ v. keeps refl (λ _.
       along (ap (λ (x : ℕ). readBytes (sh .setting) (run d) (counted true l x (saves v d))) (sym (next-place at low))) (K v)))
@@ -334,7 +336,7 @@ module _ (sh : Shape) (bytes : List ℕ) where
   plain-agrees : sh .setting .frame .«send_nack» ≡ false → (n at : ℕ) (h : Failure → Program) (k : Unit {0} → Program) (l : ℕ) (d : Progress) → at + l ≤ 65535 → Handles n h
       → ((v : ℕ) → Ag n (at + l) (k tt) (finished (sh .setting) (run d) (counted true 0 (at + l) (saves v d))))
       → Ag n at (recv-all chip l n h k) (readBytes (sh .setting) (run d) (counted true l at d))
-  unfolding recv-all
+  unfolding text.recv-all
   plain-agrees q n at h k zero d low H K = subst (λ (x : ℕ). Ag n x (k tt) (finished (sh .setting) (run d) (counted true 0 x d))) (add-zero at) (K (d .word))
   plain-agrees q n at h k (suc l) d low H K =
       along (sym (wait-plain at d q l))
@@ -351,7 +353,7 @@ module _ (sh : Shape) (bytes : List ℕ) where
   two-agrees : (n at : ℕ) (h : Failure → Program) (k : Unit {0} → Program) (d : Progress) → at + 2 ≤ 65535 → Handles n h
       → ((v : ℕ) → Ag n (suc (suc at)) (k tt) (finished (sh .setting) (run d) (counted true 0 (suc (suc at)) (saves v d))))
       → Ag n at (wait-flag chip BTF n h (λ _. lastTwo (stopsHere (sh .setting) (run d)) n h k)) (to (Wait Two wait.Status) (counted true 2 at d))
-  unfolding generate-stop take-next owed advance
+  unfolding generate-stop text.take-next owed advance
   two-agrees n at h k d low H K =
       wait-flag-agrees n at BTF Two (λ w. refl) h _ (counted true 2 at d) H (λ v. cases (stopsHere (sh .setting) (run d))
       (reads refl (λ w. writes refl (λ _. both w)))
@@ -373,7 +375,7 @@ module _ (sh : Shape) (bytes : List ℕ) where
   above-agrees : sh .setting .frame .«send_nack» ≡ true → (n at : ℕ) (h : Failure → Program) (k : Unit {0} → Program) (m : ℕ) (d : Progress) → at + suc (suc m) ≤ 65535 → Handles n h
       → ((v : ℕ) → Ag n (at + suc (suc m)) (k tt) (finished (sh .setting) (run d) (counted true 0 (at + suc (suc m)) (saves v d))))
       → Ag n at (recv-above-3 chip (suc (suc m)) n h (fromThree (stopsHere (sh .setting) (run d)) n h k)) (readBytes (sh .setting) (run d) (counted true (suc (suc m)) at d))
-  unfolding recv-above-3 take-next owed advance
+  unfolding text.recv-above-3 text.take-next owed advance
   above-agrees q n at h k zero d low H K =
       along (sym (wait-two at d q)) (two-agrees n at h k d low H (λ v. subst (λ (x : ℕ). Ag n x (k tt) (finished (sh .setting) (run d) (counted true 0 x (saves v d)))) (add-two at) (K v)))
   above-agrees q n at h k (suc zero) d low H K =
@@ -443,7 +445,7 @@ module _ (sh : Shape) (bytes : List ℕ) where
       → begun (run d) d ≡ counted true (suc m) at d → at + suc m ≤ 65535
       → ((v : ℕ) → Ag n (at + suc m) (k tt) (continues (run d) (counted true 0 (at + suc m) (saves v d))))
       → Ag n at (blocking-read-iter chip (sh .setting .address) (suc m) (frameIn d) n (λ x. finish (Failed x)) k) (to Begin d)
-  unfolding blocking-read-iter validate-address start-and-address launch-start wait-btf started owed advance
+  unfolding text.blocking-read-iter validate-address text.start-and-address launch-start text.wait-btf started owed advance
   blocking-read-iter-agrees ok n at k m d q low K =
       passes _ ok (passes _ (eqb·suc-zero m) (reads refl (λ w. along (ap (λ x. begins x w) (sym q)) (writes refl (λ _. cases (sh .setting .frame .«send_start»)
       (wait-stop-finished-agrees n at fall.Start h _ (counted true (suc m) at (saves w d)) H (start-and-address-agrees n at h _ (counted true (suc m) at (saves w d)) H

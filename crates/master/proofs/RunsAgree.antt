@@ -21,6 +21,7 @@ use Rattle.master.specs.declared.stage.Stage.the-variants.{Begin, Ended}
 use Rattle.master.specs.declared.state.Progress.{Progress}
 use Rattle.master.specs.declared.state.Move.{Move}
 use Rattle.master.specs.Rust as rust
+use Rattle.master.specs.Ours as ours
 use Rattle.master.specs.Joined.{Joined, JW, JR, framed, runs-program}
 use Rattle.master.specs.Machine.{Shape, to, saves, counted, begun, nextRun, next16, stopsHere, continues, foundRun, runOf, owed, master}
 use Rattle.master.proofs.Counts.{next-place}
@@ -74,7 +75,7 @@ module _ (chip : Chip) (address : ℕ) (ok : ltb 0x7f address ≡ false) (runs :
 
   -- the program of the runs js, and that it agrees from where they begin
   abbrev program : List Joined → ℕ → Program
-  program js n = runs-program chip address js n (λ x. finish (Failed x)) (λ _. finish done)
+  program js n = runs-program chip (ours.ours chip) address js n (λ x. finish (Failed x)) (λ _. finish done)
 
   abbrev Agrees : List Joined → ℕ → Type 0
   Agrees js n = (i w r : ℕ) (d : Progress) → Stands js i w r d → Agree (master shape) bytes n r (program js n) (resumes js d)
@@ -101,12 +102,12 @@ module _ (chip : Chip) (address : ℕ) (ok : ltb 0x7f address ≡ false) (runs :
   unfolding runs-program owed
   runs-agree [] n i w r d s = ends done (ap need.End (s .ending))
   runs-agree (JW bs ∷ js) n i w r d s =
-      program-is (ap (λ f. rust.write-bytes chip address bs f n (λ x. finish (Failed x)) (λ _. program js n)) (frame-here (JW bs) js i w r d s))
+      program-is (ap (λ f. ours.write-bytes chip address bs f n (λ x. finish (Failed x)) (λ _. program js n)) (frame-here (JW bs) js i w r d s))
       (write-bytes-agrees shape bytes ok n r _ bs (bytesJ js) w d (ap (λ x. begun x d) (this-run (JW bs) js i w r d s)) short (s .left)
       (λ v q _. subst (λ (x : ℕ). Agree (master shape) bytes n x (program js n) (continues (runOf shape (d .run)) (counted false 0 q (saves v d)))) (add-zero r)
       (behind-agrees (JW bs) js i w r d n false 0 v q s (runs-agree js n))))
   runs-agree (JR zero ∷ js) n i w r d s = absurd (omega (arith, s .filled .0))
   runs-agree (JR (suc m) ∷ js) n i w r d s =
-      program-is (ap (λ f. rust.blocking-read-iter chip address (suc m) f n (λ x. finish (Failed x)) (λ _. program js n)) (frame-here (JR (suc m)) js i w r d s))
+      program-is (ap (λ f. ours.blocking-read-iter chip address (suc m) f n (λ x. finish (Failed x)) (λ _. program js n)) (frame-here (JR (suc m)) js i w r d s))
       (blocking-read-iter-agrees shape bytes ok n r _ m d (ap (λ x. begun x d) (this-run (JR (suc m)) js i w r d s)) (omega (arith, s .small))
       (λ v. behind-agrees (JR (suc m)) js i w r d n true 0 v (r + suc m) s (runs-agree js n)))

@@ -6,6 +6,7 @@ use mathlib.Core.Option.{Option, none, some}
 use Prim.Native.Nat.{ℕ, _+_, _≤_}
 use lib.Dec.{eqb, ltb}
 use lib.ListN.{length, take, drop}
+use Rattle.registers.specs.declared.chip.Chip.{Chip}
 use Rattle.access.specs.declared.ending.Error.{Error}
 use Rattle.access.specs.declared.ending.Error.the-variants.{Overrun, BufferTooLong, InvalidAddress, TooManyOperations, LengthMismatch, InvalidArgument}
 use Rattle.access.specs.Endings.{done, failed}
@@ -23,7 +24,9 @@ use Rattle.master.specs.declared.call.Kind.{Kind}
 use Rattle.master.specs.declared.call.Kind.the-variants as kind
 use Rattle.master.specs.declared.call.Call.{Call}
 use Rattle.master.specs.declared.call.Setting.{Setting}
-use Rattle.master.specs.Rust as rust
+use Rattle.master.specs.Rust as text
+use Rattle.master.specs.Rust.{Parts, theRust}
+use Rattle.master.specs.Ours.{ours}
 use Rattle.master.specs.Machine.{Shape, master, start}
 
 -- the list of operations, the bytes to write, and how many bytes are lent for reading
@@ -36,21 +39,27 @@ abbrev pub lentWith : List ℕ → List ℕ → ℕ → Lent
 lentWith list written room = record { list = list; written = written; room = room }
 
 -- the operations of a list, each write with its part of the written bytes
-abbrev pub cut : List Operation → List ℕ → List rust.Operation
+abbrev pub cut : List Operation → List ℕ → List text.Operation
 cut [] bytes = []
-cut (o ∷ os) bytes = cond (isRead (o .direction)) (rust.Read (o .length) ∷ cut os bytes) (rust.Write (take (o .length) bytes) ∷ cut os (drop (o .length) bytes))
+cut (o ∷ os) bytes = cond (isRead (o .direction)) (text.Read (o .length) ∷ cut os bytes) (text.Write (take (o .length) bytes) ∷ cut os (drop (o .length) bytes))
 
--- ---- layer 1
+-- ---- layer 1: its text with the Rust's parts, and with ours
 
-abbrev pub rustFunction : Call → Kind → Lent → Blocking (Unit {0})
-rustFunction c kind.Transaction l = rust.blocking-transaction (c .chip) (c .address) (cut (operationsOf (l .list)) (l .written))
-rustFunction c kind.WriteRead l = rust.blocking-write-read (c .chip) (c .address) (l .written) (l .room)
-rustFunction c (kind.Write f) l = rust.write-bytes (c .chip) (c .address) (l .written) (rust.frame f)
-rustFunction c (kind.Read f) l = rust.blocking-read-timeout (c .chip) (c .address) (l .room) (rust.frame f)
+abbrev pub function : Parts → Chip → ℕ → Kind → Lent → Blocking (Unit {0})
+function p chip address kind.Transaction l = text.blocking-transaction chip (p .check) (p .validate) (p .start) address (cut (operationsOf (l .list)) (l .written))
+function p chip address kind.WriteRead l = text.blocking-write-read chip (p .check) (p .validate) (p .start) address (l .written) (l .room)
+function p chip address (kind.Write f) l = text.write-bytes chip (p .check) (p .validate) (p .start) address (l .written) (text.frame f)
+function p chip address (kind.Read f) l = text.blocking-read-timeout chip (p .check) (p .validate) (p .start) address (l .room) (text.frame f)
 
--- what is seen of the Rust, each loop with this number of turns
+-- what is seen of a call, each loop with this number of turns
+abbrev pub shownWith : Parts → ℕ → Call → Lent → List ℕ → Shown
+shownWith p turns c l answers = shownOf 0 (callOf (function p (c .chip) (c .address) (c .kind) l) (λ _. done) turns) answers
+
 unfoldable pub rustWith : ℕ → Call → Lent → List ℕ → Shown
-rustWith turns c l answers = shownOf 0 (callOf (rustFunction c (c .kind) l) (λ _. done) turns) answers
+rustWith turns c l answers = shownWith (theRust (c .chip)) turns c l answers
+
+unfoldable pub oursWith : ℕ → Call → Lent → List ℕ → Shown
+oursWith turns c l answers = shownWith (ours (c .chip)) turns c l answers
 
 -- ---- layer 2
 
@@ -65,10 +74,10 @@ abbrev pub spansOf : Kind → Lent → List Span
 spansOf x l = spansBy x (l .list) (length (l .written)) (l .room)
 
 abbrev pub frameFor : Kind → Frame
-frameFor kind.Transaction = rust.frame FirstAndLastFrame
-frameFor kind.WriteRead = rust.frame FirstAndLastFrame
-frameFor (kind.Write f) = rust.frame f
-frameFor (kind.Read f) = rust.frame f
+frameFor kind.Transaction = text.frame FirstAndLastFrame
+frameFor kind.WriteRead = text.frame FirstAndLastFrame
+frameFor (kind.Write f) = text.frame f
+frameFor (kind.Read f) = text.frame f
 
 abbrev pub settingOf : Call → Setting
 settingOf c = record { chip = c .chip; address = c .address; frame = frameFor (c .kind) }

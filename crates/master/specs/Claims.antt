@@ -1,33 +1,46 @@
--- What is claimed of the master: it is the Rust, runs join, and a recorder who strikes out the payload learns nothing of it.
+-- What is claimed of the master: it is ours, ours is the Rust, runs join, and a recorder who strikes out the payload learns nothing of it.
 use mathlib.Core.Path.{_≡_}
+use mathlib.Core.Bool.{true, false}
 use mathlib.Core.List.{List}
 use Prim.Native.Nat.{ℕ, _<_}
 use lib.Dec.{ltb}
-use mathlib.Core.Bool.{true, false}
 use lib.ListN.{length, take}
 use Rattle.registers.specs.declared.chip.Chip.{Chip}
 use Rattle.access.specs.declared.ending.Failure.{Failure}
 use Rattle.access.specs.Program.{Program}
 use Rattle.access.specs.Record.{DifferInPayload, Same, SameStruck}
+use Rattle.alike.specs.Like.{forgetting}
+use Rattle.errors.specs.AsTheRust.{asTheRust}
 use Rattle.master.specs.declared.call.Call.{Call}
-use Rattle.master.specs.Rust.{Operation, transact}
+use Rattle.master.specs.Rust.{Operation, Parts, theRust, transact}
+use Rattle.master.specs.Ours.{ours}
 use Rattle.master.specs.Joined.{joined, runs-program}
 use Rattle.master.specs.declared.state.Move.{Move}
 use Rattle.master.specs.Machine.{advance, start}
 use Rattle.master.specs.Fits.{fits}
-use Rattle.master.specs.Calls.{Lent, NoAddedCause, Accepted, spansOf, shapeOf, callShown, rustWith}
+use Rattle.master.specs.Calls.{Lent, NoAddedCause, Accepted, spansOf, shapeOf, callShown, rustWith, oursWith}
 
--- a call without an added cause of refusal shows the Rust's record, end and arrived bytes, after every list of answers
-pub record MasterIsTheRust : Type 0 where
-  pub same : (c : Call) (l : Lent) → NoAddedCause (c .kind) l → (turns : ℕ) (answers : List ℕ) → length answers < turns → callShown c l answers ≡ rustWith turns c l answers
+-- a call without an added cause of refusal shows the record, end and arrived bytes of our text, after every list of answers
+pub record MasterIsOurs : Type 0 where
+  pub same : (c : Call) (l : Lent) → NoAddedCause (c .kind) l → (turns : ℕ) (answers : List ℕ) → length answers < turns → callShown c l answers ≡ oursWith turns c l answers
   -- an accepted call is one of these
   pub covers : (c : Call) (l : Lent) → Accepted c l → NoAddedCause (c .kind) l
 
--- embedded-hal's joining: a transaction at a valid address is the program of its runs with joined bytes, however a run is divided
-abbrev pub RunsJoin : Type 0
-RunsJoin =
-    (chip : Chip) (address : ℕ) → ltb 0x7f address ≡ false → (turns : ℕ) (h : Failure → Program) (k : Unit {0} → Program) (operations : List Operation)
-    → transact chip address (length operations) operations turns h k ≡ runs-program chip address (joined operations) turns h k
+-- every call, refused ones too: the Rust's record and arrived bytes are those of our text, and its end is our end, read as the Rust's
+abbrev pub OursIsTheRust : Type 0
+OursIsTheRust = (c : Call) (l : Lent) (turns : ℕ) (answers : List ℕ) → rustWith turns c l answers ≡ forgetting (asTheRust (c .chip) true) (oursWith turns c l answers)
+
+-- an address that passes
+abbrev pub Passes : Parts → ℕ → Type 0
+Passes p address = (turns : ℕ) (h : Failure → Program) (k : Unit {0} → Program) → p .validate address turns h k ≡ k tt
+
+-- embedded-hal's joining, with any parts: a transaction at an address that passes is the program of its runs with joined bytes, however a
+-- run is divided. Addresses of seven bits pass
+pub record RunsJoin : Type 0 where
+  pub joins : (chip : Chip) (p : Parts) (address : ℕ) → Passes p address → (turns : ℕ) (h : Failure → Program) (k : Unit {0} → Program) (operations : List Operation)
+      → transact chip (p .check) (p .validate) (p .start) address (length operations) operations turns h k ≡ runs-program chip p address (joined operations) turns h k
+  pub rust-passes : (chip : Chip) (address : ℕ) → ltb 0x7f address ≡ false → Passes (theRust chip) address
+  pub ours-passes : (chip : Chip) (address : ℕ) → ltb 0x7f address ≡ false → Passes (ours chip) address
 
 -- two accepted calls of one kind, chip and address, whose runs agree
 pub record Comparable (c : Call) (l₁ l₂ : Lent) : Type 0 where

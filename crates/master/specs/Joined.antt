@@ -5,7 +5,7 @@ use Prim.Native.Nat.{ℕ, _+_}
 use Rattle.registers.specs.declared.chip.Chip.{Chip}
 use Rattle.access.specs.Program.{Blocking, pure, _>>_}
 use Rattle.master.specs.declared.call.Frame.{Frame}
-use Rattle.master.specs.Rust.{Operation, Write, Read, isEmpty, write-bytes, blocking-read-iter}
+use Rattle.master.specs.Rust.{Operation, Write, Read, isEmpty, Parts, write-bytes, blocking-read-iter}
 
 -- a write run with its bytes, a read run with their number
 pub data Joined : Type 0 where
@@ -34,7 +34,7 @@ joined (Read size ∷ operations) = joinR size operations
 abbrev pub framed : Bool → Bool → Frame
 framed start stop = record { «send_start» = start; «send_stop» = stop; «send_nack» = true }
 
-unfoldable pub runs-program : Chip → ℕ → List Joined → Blocking (Unit {0})
-runs-program chip addr [] = pure tt
-runs-program chip addr (JW bytes ∷ runs) = write-bytes chip addr bytes (framed true (isEmpty runs)) >> runs-program chip addr runs
-runs-program chip addr (JR size ∷ runs) = blocking-read-iter chip addr size (framed true (isEmpty runs)) >> runs-program chip addr runs
+unfoldable pub runs-program : Chip → Parts → ℕ → List Joined → Blocking (Unit {0})
+runs-program chip p addr [] = pure tt
+runs-program chip p addr (JW bytes ∷ runs) = write-bytes chip (p .check) (p .validate) (p .start) addr bytes (framed true (isEmpty runs)) >> runs-program chip p addr runs
+runs-program chip p addr (JR size ∷ runs) = blocking-read-iter chip (p .check) (p .validate) (p .start) addr size (framed true (isEmpty runs)) >> runs-program chip p addr runs

@@ -1,4 +1,5 @@
 pub mod Rust
+pub mod Ours
 pub mod Joined
 pub mod Machine
 pub mod Fits

@@ -9,17 +9,20 @@ use borrow.Author.Tests.{ltb-true, ltb-false, lt-ltb, le-ltb}
 use lib.Dec.{ltb}
 use lib.ListN.{length}
 use Rattle.access.specs.Record.{Shown}
+use Rattle.alike.specs.Like.{forgetting}
+use Rattle.errors.specs.AsTheRust.{asTheRust}
 use Rattle.operations.specs.declared.operation.Direction.{Direction}
 use Rattle.operations.specs.declared.operation.Direction.the-variants.{Write, Read}
 use Rattle.operations.specs.declared.operation.Operation.{Operation}
 use Rattle.operations.specs.Operations.{directionOf, operationOf, operationsOf}
 use Rattle.operations.specs.Runs.{runsOf}
-use Rattle.master.specs.Calls.{refusal, rustWith}
+use Rattle.master.specs.Calls.{refusal, rustWith, oursWith}
+use Rattle.images.specs.Numbers.{chipOf}
 use Rattle.ch32_i2c.specs.Fed.{Makes}
-use Rattle.ch32_i2c.specs.Demands.{entryOf, ownRefusal, rust, SameRuns, transactions}
+use Rattle.ch32_i2c.specs.Demands.{entryOf, ownRefusal, rust, ours, SameRuns, transactions}
 use Rattle.ch32_i2c.proofs.Demands.{demand-2}
 use Rattle.operation_bytes.specs.Encoded.{numberOf, encoded}
-use Rattle.operation_list.specs.Claims.{sliceCall, sliceRefusal, rustOf, SliceIsTheList}
+use Rattle.operation_list.specs.Claims.{sliceCall, sliceRefusal, rustOf, oursOf, SliceIsTheList}
 use Rattle.operation_bytes.proofs.EncodedLaws.{encoded-shaped, encoded-length}
 
 -- ---- the bytes spell the operations
@@ -51,7 +54,11 @@ refuses-by : (chip address : ℕ) (os : List Operation) (written : List ℕ) (ro
 unfolding refusal
 refuses-by chip address os written room = rw (encoded-shaped os, many-as (length os) (length (encoded os)) (encoded-length os), spells-back os)
 
--- ---- the Rust
+-- ---- ours and the Rust
+
+ours-by : (turns chip address : ℕ) (os : List Operation) (written : List ℕ) (room : ℕ) (answers : List ℕ) → ours turns (sliceCall chip address os written) room answers ≡ oursOf turns chip address os written answers
+unfolding oursWith
+ours-by turns chip address os written room answers = ap (λ (x : List Operation). oursOf turns chip address x written answers) (spells-back os)
 
 rust-by : (turns chip address : ℕ) (os : List Operation) (written : List ℕ) (room : ℕ) (answers : List ℕ) → rust turns (sliceCall chip address os written) room answers ≡ rustOf turns chip address os written answers
 unfolding rustWith
@@ -69,6 +76,10 @@ slice-is-the-list = record {
   steps = λ chip address os written block bytes a. refl;
   refuses = refuses-by;
   same = λ chip address os written block bytes accepted turns answers h.
-      subst (λ (s : Shown). Makes (entryOf (sliceCall chip address os written)) block bytes answers s) (rust-by turns chip address os written (length bytes) answers) (demand-2 .same (sliceCall chip address os written) block bytes tt accepted turns answers h);
+      subst (λ (s : Shown). Makes (entryOf (sliceCall chip address os written)) block bytes answers s) (ours-by turns chip address os written (length bytes) answers) (demand-2 .same (sliceCall chip address os written) block bytes tt accepted turns answers h);
+  as-the-rust = λ chip address os written turns answers.
+      sym (rust-by turns chip address os written 0 answers)
+      ∙ demand-2 .as-the-rust (sliceCall chip address os written) 0 turns answers
+      ∙ ap (forgetting (asTheRust (chipOf chip) true)) (ours-by turns chip address os written 0 answers);
   runs = runs-by;
 }

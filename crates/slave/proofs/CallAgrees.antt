@@ -1,4 +1,4 @@
--- The calls of the slave show what the Rust shows: `init_slave`, listen and the two responders.
+-- The calls of the slave show what our text shows, and `init_slave` what the Rust shows.
 -- Assumes nothing.
 use mathlib.Core.Path.{_≡_, refl, sym, ap, _∙_}
 use mathlib.Core.Bool.{Bool, true, false, cond, _||_, or-true, or-false}
@@ -31,8 +31,8 @@ use Rattle.slave.specs.declared.state.Kind.the-variants.{Listen, Respond
 use Rattle.slave.specs.Rust as rust
 use Rattle.slave.specs.Init.{ownFault, secondFault, configFault, ownWord, secondWord, owed, advance, initMachine, started}
 use Rattle.slave.specs.Machine.{fresh, slave, start}
-use Rattle.slave.specs.Calls.{seenAfter, initShown, rustInit, SlaveLent, sizeOf, settingOf, bytesOf, slaveShown, rustProgram, rustSlave, Accepted}
-use Rattle.slave.specs.Claims.{SlaveIsTheRust}
+use Rattle.slave.specs.Calls.{seenAfter, initShown, rustInit, SlaveLent, sizeOf, settingOf, bytesOf, slaveShown, oursProgram, oursSlave, Accepted}
+use Rattle.slave.specs.Claims.{SlaveIsOurs}
 use Rattle.slave.proofs.SlaveAgrees.{blocking-listen-agrees, blocking-respond-to-write-agrees, blocking-respond-to-read-agrees}
 
 -- ---- init_slave
@@ -90,7 +90,7 @@ init-same c turns answers q =
 -- ---- listen and the two responders
 
 program-same : (chip : Chip) (x : Kind) (l : SlaveLent) (turns : ℕ) (answers : List ℕ) → length answers < turns
-    → shownFrom (slave (settingOf chip x l)) (bytesOf x l) (start x) answers ≡ shownOf 0 (rustProgram turns chip x l) answers
+    → shownFrom (slave (settingOf chip x l)) (bytesOf x l) (start x) answers ≡ shownOf 0 (oursProgram turns chip x l) answers
 program-same chip Listen l turns answers q = blocking-listen-agrees (settingOf chip Listen l) [] refl turns 0 fresh .same answers q
 program-same chip RespondToWrite l turns answers q = blocking-respond-to-write-agrees (settingOf chip RespondToWrite l) [] refl turns fresh refl .same answers q
 program-same chip RespondToRead l turns answers q = blocking-respond-to-read-agrees (settingOf chip RespondToRead l) (l .reply) refl refl turns 0 fresh refl .same answers q
@@ -101,9 +101,9 @@ pub accepted-shown : (chip : Chip) (x : Kind) (l : SlaveLent) → Accepted x l �
 unfolding slaveShown
 accepted-shown chip x l a answers = ap (λ (b : Bool). seenAfter (cond b (some BufferTooLong) none) (shownFrom (slave (settingOf chip x l)) (bytesOf x l) (start x) answers)) (le-ltb 65535 (sizeOf x l) a)
 
-same : (chip : Chip) (x : Kind) (l : SlaveLent) → Accepted x l → (turns : ℕ) (answers : List ℕ) → length answers < turns → slaveShown chip x l answers ≡ rustSlave turns chip x l answers
-unfolding rustSlave
+same : (chip : Chip) (x : Kind) (l : SlaveLent) → Accepted x l → (turns : ℕ) (answers : List ℕ) → length answers < turns → slaveShown chip x l answers ≡ oursSlave turns chip x l answers
+unfolding oursSlave
 same chip x l a turns answers q = accepted-shown chip x l a answers ∙ program-same chip x l turns answers q
 
-pub slave-is-the-rust : SlaveIsTheRust
-slave-is-the-rust = record { init = init-same; same = same }
+pub slave-is-ours : SlaveIsOurs
+slave-is-ours = record { init = init-same; same = same }

@@ -19,7 +19,7 @@ use Rattle.slave.specs.declared.state.Kind.the-variants.{Listen, Respond
 use Rattle.slave.specs.Rust as rust
 use Rattle.slave.specs.Init.{configFault}
 use Rattle.slave.specs.Machine.{owed, advance}
-use Rattle.slave.specs.Calls.{SlaveLent, Accepted, slaveShown, rustSlave}
+use Rattle.slave.specs.Calls.{SlaveLent, Accepted, slaveShown, rustSlave, oursSlave}
 use Rattle.slave.specs.Claims.{Any}
 use Rattle.slave.specs.Edges.{addressEdges}
 use Rattle.slave.proofs.Secret.{slave-is-secret}
@@ -66,6 +66,10 @@ three-ends = refl
 three-of-the-rust : rustSlave 10 plain RespondToRead three answers ≡ slaveShown plain RespondToRead three answers
 unfolding rustSlave slaveShown rust.blocking-respond-to-read rust.clear-stopf owed advance hasBit errorFlags
 three-of-the-rust = refl
+
+three-of-ours : oursSlave 10 plain RespondToRead three answers ≡ slaveShown plain RespondToRead three answers
+unfolding oursSlave slaveShown rust.blocking-respond-to-read rust.clear-stopf owed advance hasBit errorFlags
+three-of-ours = refl
 
 -- ---- two receives of one length that get other bytes
 

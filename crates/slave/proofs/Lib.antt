@@ -4,3 +4,5 @@ pub mod CallAgrees
 pub mod Secret
 pub mod FitsKept
 pub mod Examples
+pub mod TextAlike
+pub mod OursIsTheRust

@@ -24,7 +24,8 @@ use Rattle.access.proofs.Agreement.{Agree, no-answers, ends, reads-first, reads
 use Rattle.errors.specs.declared.Checked.{Checked}
 use Rattle.errors.specs.declared.Checked.the-variants as checked
 use Rattle.errors.specs.Classes.{errorOf, decided}
-use Rattle.errors.proofs.ClassLaws.{by-class, no-flags}
+use Rattle.errors.specs.Check.{check-errors}
+use Rattle.errors.proofs.ClassLaws.{no-flags}
 use Rattle.slave.specs.declared.config.SlaveAddress.the-variants.{SevenBit, TenBit}
 use Rattle.slave.specs.declared.command.SlaveCommandKind.{SlaveCommandKind}
 use Rattle.slave.specs.declared.command.SlaveCommandKind.the-variants.{GeneralCall}
@@ -42,6 +43,7 @@ use Rattle.slave.specs.declared.state.Setting.{Setting}
 use Rattle.slave.specs.declared.state.Progress.{Progress}
 use Rattle.slave.specs.declared.state.Move.{Move}
 use Rattle.slave.specs.Rust as rust
+use Rattle.slave.specs.Ours as ours
 use Rattle.slave.specs.Numbers.{commandNumber, statusNumber}
 use Rattle.slave.specs.Machine.{to, saves, counted, fails, clearStopf, slaveHandleErrors, commanded, kindOf, ownAddress, leftover, takenOff, polls, owed, advance, slave}
 use Rattle.slave.proofs.CountLaws.{capped, capped-zero, capped-next, capped-byte, capped-left, capped-taken}
@@ -96,14 +98,12 @@ module _ (g : Setting) (bytes : List ℕ) where
   clock-agrees m n at again d K = asks refl (λ t. cases (late t) (abort-slave-transfer-agrees m n at (failureOf Timeout) d) K)
 
   pub check-errors-and-time-agrees : (m n at a : ℕ) (again : Program) (d : Progress) → ((v : ℕ) → Ag m at again (to Poll (saves v d)))
-      → Ag m at (rust.check-errors-and-time (g .chip) a n last (λ _. again)) (slaveHandleErrors d a)
-  unfolding rust.check-errors-and-time rust.slave-handle-errors checkTimeout owed advance
+      → Ag m at (ours.check-errors-and-time (g .chip) a n last (λ _. again)) (slaveHandleErrors d a)
+  unfolding rust.check-errors-and-time check-errors checkTimeout owed advance
   check-errors-and-time-agrees m n at a again d K =
       cases-with (not (eqb (errorFlags a) 0))
-      (λ _. writes refl (λ _. program-is (by-class (g .chip) false a (λ e. aborts n (failureOf e)) _)
-      (judged-agrees m n at (errorOf (g .chip) false a) _ (saves a d) _ (clock-agrees m n at again (saves a d) (K a)))))
-      (λ clear. program-is (by-class (g .chip) false a (λ e. aborts n (failureOf e)) _
-      ∙ ap (λ c. decided c (λ e. aborts n (failureOf e)) (asking n again)) (no-flags (g .chip) false a (eqb-true _ _ (not-false _ clear))))
+      (λ _. writes refl (λ _. judged-agrees m n at (errorOf (g .chip) false a) _ (saves a d) _ (clock-agrees m n at again (saves a d) (K a))))
+      (λ clear. program-is (ap (λ c. decided c (λ e. aborts n (failureOf e)) (asking n again)) (no-flags (g .chip) false a (eqb-true _ _ (not-false _ clear))))
       (clock-agrees m n at again d (K (d .word))))
 
   -- ---- listen
@@ -143,7 +143,7 @@ module _ (g : Setting) (bytes : List ℕ) where
       → Ag m at
       (spinFrom m (tt {0}) (λ s next. access (read Star1) (λ a. cond (hasBit ADDR a)
       (access (read Star2) (λ b. rust.decode-slave-address b n last (λ o. commandEnd (record { kind = rust.kind-of b; address = o }))))
-      (rust.check-errors-and-time (g .chip) a n last (λ _. next (tt {0}))))))
+      (ours.check-errors-and-time (g .chip) a n last (λ _. next (tt {0}))))))
       (to Poll d)
   unfolding owed advance
   listen-turns e zero n at d = no-answers
@@ -152,7 +152,7 @@ module _ (g : Setting) (bytes : List ℕ) where
       (match-agrees m n at d)
       (check-errors-and-time-agrees m n at a _ d (λ v. listen-turns e m n at (saves v d)))))
 
-  pub blocking-listen-agrees : g .kind ≡ Listen → (n at : ℕ) (d : Progress) → Ag n at (rust.blocking-listen (g .chip) n last commandEnd) (to (ClearStopf stopf.Listen clearing.Status) d)
+  pub blocking-listen-agrees : g .kind ≡ Listen → (n at : ℕ) (d : Progress) → Ag n at (ours.blocking-listen (g .chip) n last commandEnd) (to (ClearStopf stopf.Listen clearing.Status) d)
   unfolding rust.blocking-listen rust.clear-slave-stale-flags owed advance
   blocking-listen-agrees e n at d =
       clear-stopf-agrees n n at stopf.Listen last _ d (λ v. reads refl (λ a. cases (not (eqb (errorFlags a) 0))
@@ -163,7 +163,7 @@ module _ (g : Setting) (bytes : List ℕ) where
           (access (read Ctlr2) (λ w. access (write Ctlr2 (putBit ITBUFEN false w)) (λ _. access (read Ctlr1) (λ w. access (write Ctlr1 (putBit ACK true w)) (λ _.
           spinFrom n (tt {0}) (λ s next. access (read Star1) (λ a. cond (hasBit ADDR a)
           (access (read Star2) (λ b. rust.decode-slave-address b n last (λ o. commandEnd (record { kind = rust.kind-of b; address = o }))))
-          (rust.check-errors-and-time (g .chip) a n last (λ _. next (tt {0}))))))))))
+          (ours.check-errors-and-time (g .chip) a n last (λ _. next (tt {0}))))))))))
           (to (Arm arm.BufferRead) d)
       armed d = reads refl (λ w. writes refl (λ _. reads refl (λ u. writes refl (λ _. listen-turns e n n at (saves u d)))))
 
@@ -178,7 +178,7 @@ module _ (g : Setting) (bytes : List ℕ) where
       (access (read Datar) (λ b. cond (ltb stored (g .size)) (keep (b % 256) (next (suc stored))) (next stored)))
       (cond (hasBit STOPF a) (rust.clear-stopf n last (λ _. storedEnd stored))
       (cond (hasBit ADDR a) (storedEnd stored)
-      (rust.check-errors-and-time (g .chip) a n last (λ _. next stored))))))
+      (ours.check-errors-and-time (g .chip) a n last (λ _. next stored))))))
 
   receive-turns : g .kind ≡ RespondToWrite → (m n stored : ℕ) (d : Progress) → Ag m stored (receiving n m stored) (to Poll (counted stored d))
   unfolding owed advance
@@ -201,7 +201,7 @@ module _ (g : Setting) (bytes : List ℕ) where
           (λ _. along (ap (λ (b : Bool). to Poll (counted (cond b (suc stored) stored) d)) (sym q)) (rest stored d))
 
   pub blocking-respond-to-write-agrees : g .kind ≡ RespondToWrite → (n : ℕ) (d : Progress) → d .count ≡ 0
-      → Ag n 0 (rust.blocking-respond-to-write (g .chip) (g .size) n last storedEnd) (to Poll d)
+      → Ag n 0 (ours.blocking-respond-to-write (g .chip) (g .size) n last storedEnd) (to Poll d)
   unfolding rust.blocking-respond-to-write
   blocking-respond-to-write-agrees e n d z = along (ap (λ (x : ℕ). to Poll (counted x d)) (sym z)) (receive-turns e n n 0 d)
 
@@ -217,7 +217,7 @@ module _ (g : Setting) (bytes : List ℕ) where
       (cond (hasBit STOPF a) (rust.clear-stopf n last (λ _. statusEnd (rust.send-status (length bytes) (rust.taken-off (g .chip) a sent))))
       (cond (hasBit ADDR a) (statusEnd (rust.send-status (length bytes) (rust.taken-off (g .chip) a sent)))
       (cond (hasBit TXE a) (access (send (getD bytes sent 0)) (λ _. next (suc sent)))
-      (rust.check-errors-and-time (g .chip) a n last (λ _. next sent)))))))
+      (ours.check-errors-and-time (g .chip) a n last (λ _. next sent)))))))
 
   -- `sent` is what the Rust counts, and the machine counts it capped
   reply-turns : g .kind ≡ RespondToRead → g .size ≡ length bytes → (m n at sent : ℕ) (d : Progress) → Ag m at (sending n m sent) (to Poll (counted (capped (g .size) sent) d))
@@ -244,6 +244,6 @@ module _ (g : Setting) (bytes : List ℕ) where
       byte = ap (λ (x : ℕ). getD bytes (capped x sent) 0) l ∙ capped-byte bytes sent
 
   pub blocking-respond-to-read-agrees : g .kind ≡ RespondToRead → g .size ≡ length bytes → (n at : ℕ) (d : Progress) → d .count ≡ 0
-      → Ag n at (rust.blocking-respond-to-read (g .chip) bytes n last statusEnd) (to Poll d)
+      → Ag n at (ours.blocking-respond-to-read (g .chip) bytes n last statusEnd) (to Poll d)
   unfolding rust.blocking-respond-to-read
   blocking-respond-to-read-agrees e l n at d z = along (ap (λ (x : ℕ). to Poll (counted x d)) (capped-zero (g .size) ∙ sym z)) (reply-turns e l n n at 0 d)

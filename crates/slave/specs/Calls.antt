@@ -16,7 +16,8 @@ use Rattle.slave.specs.declared.config.SlaveConfig.{SlaveConfig}
 use Rattle.slave.specs.declared.state.Kind.{Kind}
 use Rattle.slave.specs.declared.state.Kind.the-variants.{Listen, RespondToWrite, RespondToRead}
 use Rattle.slave.specs.declared.state.Setting.{Setting}
-use Rattle.slave.specs.Rust.{into-slave, blocking-listen, blocking-respond-to-write, blocking-respond-to-read}
+use Rattle.slave.specs.Rust as rust
+use Rattle.slave.specs.Ours as ours
 use Rattle.slave.specs.Numbers.{commandNumber, statusNumber}
 use Rattle.slave.specs.Init.{initRefusal, initMachine, started}
 use Rattle.slave.specs.Machine.{slave, start}
@@ -32,7 +33,7 @@ unfoldable pub initShown : SlaveConfig → List ℕ → Shown
 initShown c answers = seenAfter (initRefusal c) (shownFrom initMachine [] (started c) answers)
 
 unfoldable pub rustInit : ℕ → SlaveConfig → List ℕ → Shown
-rustInit turns c answers = shownOf 0 (callOf (into-slave c) (λ _. done) turns) answers
+rustInit turns c answers = shownOf 0 (callOf (rust.into-slave c) (λ _. done) turns) answers
 
 -- ---- listen and the two responders
 
@@ -62,13 +63,24 @@ sizeRefusal size = cond (ltb 65535 size) (some BufferTooLong) none
 unfoldable pub slaveShown : Chip → Kind → SlaveLent → List ℕ → Shown
 slaveShown chip x l answers = seenAfter (sizeRefusal (sizeOf x l)) (shownFrom (slave (settingOf chip x l)) (bytesOf x l) (start x) answers)
 
+-- the Rust: the text with the Rust's own parts
 abbrev pub rustProgram : ℕ → Chip → Kind → SlaveLent → Program
-rustProgram turns chip Listen l = callOf (blocking-listen chip) (λ c. returned (commandNumber c)) turns
-rustProgram turns chip RespondToWrite l = callOf (blocking-respond-to-write chip (l .room)) (λ n. returned n) turns
-rustProgram turns chip RespondToRead l = callOf (blocking-respond-to-read chip (l .reply)) (λ s. returned (statusNumber s)) turns
+rustProgram turns chip Listen l = callOf (rust.blocking-listen chip (rust.slave-handle-errors chip)) (λ c. returned (commandNumber c)) turns
+rustProgram turns chip RespondToWrite l = callOf (rust.blocking-respond-to-write chip (rust.slave-handle-errors chip) (l .room)) (λ n. returned n) turns
+rustProgram turns chip RespondToRead l =
+    callOf (rust.blocking-respond-to-read chip (rust.slave-handle-errors chip) rust.SendStatus (λ star1. rust.send-status) (l .reply)) (λ s. returned (statusNumber s)) turns
+
+-- ours
+abbrev pub oursProgram : ℕ → Chip → Kind → SlaveLent → Program
+oursProgram turns chip Listen l = callOf (ours.blocking-listen chip) (λ c. returned (commandNumber c)) turns
+oursProgram turns chip RespondToWrite l = callOf (ours.blocking-respond-to-write chip (l .room)) (λ n. returned n) turns
+oursProgram turns chip RespondToRead l = callOf (ours.blocking-respond-to-read chip (l .reply)) (λ s. returned (statusNumber s)) turns
 
 unfoldable pub rustSlave : ℕ → Chip → Kind → SlaveLent → List ℕ → Shown
 rustSlave turns chip x l answers = shownOf 0 (rustProgram turns chip x l) answers
+
+unfoldable pub oursSlave : ℕ → Chip → Kind → SlaveLent → List ℕ → Shown
+oursSlave turns chip x l answers = shownOf 0 (oursProgram turns chip x l) answers
 
 -- document 01's accepted call, and one without an added cause of refusal
 abbrev pub Accepted : Kind → SlaveLent → Type 0

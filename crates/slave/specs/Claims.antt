@@ -1,12 +1,14 @@
--- What is claimed of the slave: it is the Rust, and a recorder who strikes out the payload learns nothing of it.
+-- What is claimed of the slave: it is ours, ours is the Rust, and a recorder who strikes out the payload learns nothing of it.
 use mathlib.Core.Path.{_≡_}
-use mathlib.Core.Bool.{true}
+use mathlib.Core.Bool.{true, false}
 use mathlib.Core.List.{List}
 use Prim.Native.Nat.{ℕ, _<_}
 use lib.ListN.{length, take}
 use Rattle.registers.specs.declared.chip.Chip.{Chip}
 use Rattle.access.specs.declared.ending.Ending.{Ending}
 use Rattle.access.specs.Record.{DifferInPayload, Same, SameStruck}
+use Rattle.alike.specs.Like.{forgetting}
+use Rattle.errors.specs.AsTheRust.{asTheRust}
 use Rattle.slave.specs.declared.config.SlaveConfig.{SlaveConfig}
 use Rattle.slave.specs.declared.state.Kind.{Kind}
 use Rattle.slave.specs.declared.state.Kind.the-variants.{RespondToWrite, RespondToRead}
@@ -14,13 +16,18 @@ use Rattle.slave.specs.declared.state.Setting.{Setting}
 use Rattle.slave.specs.declared.state.Move.{Move}
 use Rattle.slave.specs.Machine.{advance, start}
 use Rattle.slave.specs.Fits.{fits}
-use Rattle.slave.specs.Calls.{SlaveLent, Accepted, initShown, rustInit, slaveShown, rustSlave}
+use Rattle.slave.specs.Calls.{SlaveLent, Accepted, initShown, rustInit, slaveShown, rustSlave, oursSlave}
 
--- every configuration, and every call without an added cause of refusal, shows the Rust's record, end and arrived bytes
-pub record SlaveIsTheRust : Type 0 where
+-- every configuration shows the Rust's record and end: `init_slave` has no part in which ours differs
+-- every other call without an added cause of refusal shows the record, end and arrived bytes of our text, after every list of answers
+pub record SlaveIsOurs : Type 0 where
   pub init : (c : SlaveConfig) (turns : ℕ) (answers : List ℕ) → length answers < turns → initShown c answers ≡ rustInit turns c answers
   pub same : (chip : Chip) (x : Kind) (l : SlaveLent) → Accepted x l → (turns : ℕ) (answers : List ℕ) → length answers < turns
-      → slaveShown chip x l answers ≡ rustSlave turns chip x l answers
+      → slaveShown chip x l answers ≡ oursSlave turns chip x l answers
+
+-- the Rust's record and arrived bytes are those of our text, and its end is our end, read as the Rust's
+abbrev pub OursIsTheRust : Type 0
+OursIsTheRust = (chip : Chip) (x : Kind) (l : SlaveLent) (turns : ℕ) (answers : List ℕ) → rustSlave turns chip x l answers ≡ forgetting (asTheRust chip false) (oursSlave turns chip x l answers)
 
 -- any two ends
 abbrev pub Any : Ending → Ending → Type 0

@@ -1,4 +1,5 @@
 pub mod Rust
+pub mod Ours
 pub mod Numbers
 pub mod Init
 pub mod Machine

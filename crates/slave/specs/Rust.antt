@@ -1,4 +1,5 @@
--- Layer 1: the blocking slave of src/i2c.rs and src/i2c/slave.rs, one definition for each function, callees first.
+-- Layer 1: the blocking slave of src/i2c.rs and src/i2c/slave.rs, one definition for each function, callees first. From two places on
+-- the text is over parts that stand above it: those are the Rust's, and Ours.antt has others.
 use mathlib.Core.Bool.{Bool, true, false, cond, not, _&&_, _||_}
 use mathlib.Core.List.{List}
 use Prim.Native.Nat.{ℕ, suc, pred, _+_, _-_, _*_, _/_, _%_, min}
@@ -144,74 +145,79 @@ abbrev pub kind-of : ℕ → SlaveCommandKind
 kind-of star2 = cond (hasBit GENCALL star2) GeneralCall (cond (hasBit TRA star2) Read Write)
 
 module _ (chip : Chip) where
-  -- `Self::slave_handle_errors(&star1).map_err(..)?; timeout.check().ok_or_else(..)?;`, where both closures abort
-  unfoldable pub check-errors-and-time : ℕ → Blocking (Unit {0})
-  check-errors-and-time star1 = do
-    onDrop abort-slave-transfer (slave-handle-errors chip star1)
-    onDrop abort-slave-transfer checkTimeout
-
-  unfoldable pub blocking-listen : Blocking SlaveCommand
-  blocking-listen = do
-    clear-slave-stale-flags
-    modify Ctlr2 (putBit ITBUFEN false)
-    modify Ctlr1 (putBit ACK true)
-    loop (tt {0}) (λ _. do
-      star1 ← readRegister Star1
-      if hasBit ADDR star1
-          then (do
-            star2 ← readRegister Star2
-            address ← decode-slave-address star2
-            pure (return (record { kind = kind-of star2; address = address })))
-          else (do
-            check-errors-and-time star1
-            pure (continue (tt {0}))))
-
-  -- over `stored`; the buffer is known by how many bytes it takes
-  unfoldable pub blocking-respond-to-write : ℕ → Blocking ℕ
-  blocking-respond-to-write size =
-      loop 0 (λ stored. do
-        star1 ← readRegister Star1
-        if hasBit RXNE star1
-            then (do
-              datar ← readRegister Datar
-              if ltb stored size
-                  then (do
-                    store (datar % 256)
-                    pure (continue (suc stored)))
-                  else pure (continue stored))
-            else (if hasBit STOPF star1
-            then (do
-              clear-stopf
-              pure (return stored))
-            else (if hasBit ADDR star1
-            then pure (return stored)
-            else (do
-              check-errors-and-time star1
-              pure (continue stored)))))
-
   -- `if !star1.tx_e() && sent > 0 { sent -= 1; }`
   abbrev pub taken-off : ℕ → ℕ → ℕ
   taken-off star1 sent = cond (not (hasBit TXE star1) && ltb 0 sent) (pred sent) sent
 
-  -- over `sent`
-  unfoldable pub blocking-respond-to-read : List ℕ → Blocking SendStatus
-  blocking-respond-to-read bytes =
-      loop 0 (λ sent. do
+  -- from here on over any error check; the Rust's stands above
+  module _ (slave-handle-errors : ℕ → Blocking (Unit {0})) where
+    -- `Self::slave_handle_errors(&star1).map_err(..)?; timeout.check().ok_or_else(..)?;`, where both closures abort
+    unfoldable pub check-errors-and-time : ℕ → Blocking (Unit {0})
+    check-errors-and-time star1 = do
+      onDrop abort-slave-transfer (slave-handle-errors star1)
+      onDrop abort-slave-transfer checkTimeout
+
+    unfoldable pub blocking-listen : Blocking SlaveCommand
+    blocking-listen = do
+      clear-slave-stale-flags
+      modify Ctlr2 (putBit ITBUFEN false)
+      modify Ctlr1 (putBit ACK true)
+      loop (tt {0}) (λ _. do
         star1 ← readRegister Star1
-        if hasBit AF star1
+        if hasBit ADDR star1
             then (do
-              clear-af
-              pure (return (send-status (length bytes) sent)))
-            else (if hasBit STOPF star1
-            then (do
-              clear-stopf
-              pure (return (send-status (length bytes) (taken-off star1 sent))))
-            else (if hasBit ADDR star1
-            then pure (return (send-status (length bytes) (taken-off star1 sent)))
-            else (if hasBit TXE star1
-            then (do
-              sendData (getD bytes sent 0)
-              pure (continue (suc sent)))
+              star2 ← readRegister Star2
+              address ← decode-slave-address star2
+              pure (return (record { kind = kind-of star2; address = address })))
             else (do
               check-errors-and-time star1
-              pure (continue sent))))))
+              pure (continue (tt {0}))))
+
+    -- over `stored`; the buffer is known by how many bytes it takes
+    unfoldable pub blocking-respond-to-write : ℕ → Blocking ℕ
+    blocking-respond-to-write size =
+        loop 0 (λ stored. do
+          star1 ← readRegister Star1
+          if hasBit RXNE star1
+              then (do
+                datar ← readRegister Datar
+                if ltb stored size
+                    then (do
+                      store (datar % 256)
+                      pure (continue (suc stored)))
+                    else pure (continue stored))
+              else (if hasBit STOPF star1
+              then (do
+                clear-stopf
+                pure (return stored))
+              else (if hasBit ADDR star1
+              then pure (return stored)
+              else (do
+                check-errors-and-time star1
+                pure (continue stored)))))
+
+    -- and over what a reply counts, by the word that ends it too; the Rust's `send-status`, above, doesn't look at the word
+    module _ (Counts : Type 0) (counts : ℕ → ℕ → ℕ → Counts) where
+      -- over `sent`
+      unfoldable pub blocking-respond-to-read : List ℕ → Blocking Counts
+      blocking-respond-to-read bytes =
+          loop 0 (λ sent. do
+            star1 ← readRegister Star1
+            let send-status = counts star1
+            if hasBit AF star1
+                then (do
+                  clear-af
+                  pure (return (send-status (length bytes) sent)))
+                else (if hasBit STOPF star1
+                then (do
+                  clear-stopf
+                  pure (return (send-status (length bytes) (taken-off star1 sent))))
+                else (if hasBit ADDR star1
+                then pure (return (send-status (length bytes) (taken-off star1 sent)))
+                else (if hasBit TXE star1
+                then (do
+                  sendData (getD bytes sent 0)
+                  pure (continue (suc sent)))
+                else (do
+                  check-errors-and-time star1
+                  pure (continue sent))))))

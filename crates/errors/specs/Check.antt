@@ -1,0 +1,21 @@
+-- Our error check, for master and slave: all error flags of a status word are cleared, and the first of the chip's list decides.
+use mathlib.Core.Bool.{Bool, not}
+use Prim.Native.Nat.{ℕ}
+use lib.Dec.{eqb}
+use Rattle.registers.specs.declared.chip.Chip.{Chip}
+use Rattle.registers.specs.declared.register.Register.the-variants.{Star1}
+use Rattle.registers.specs.Flags.{errorFlags, clearError}
+use Rattle.access.specs.Endings.{failureOf}
+use Rattle.access.specs.Program.{Blocking, writeRegister, onlyIf, _>>_}
+use Rattle.errors.specs.declared.Checked.{Checked}
+use Rattle.errors.specs.Classes.{errorOf, decided}
+
+-- the error of a word's class, if it has one
+abbrev pub report : Checked → Blocking (Unit {0})
+report c = λ n h k. decided c (λ e. h (failureOf e)) (k tt)
+
+unfoldable pub check-errors : Chip → Bool → ℕ → Blocking (Unit {0})
+check-errors chip nack status = do
+  let observed = errorFlags status
+  onlyIf (not (eqb observed 0)) (writeRegister Star1 (clearError observed))
+  report (errorOf chip nack status)

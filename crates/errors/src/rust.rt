@@ -1,0 +1,12 @@
+// Our ends as the Rust's: what programs that hold the library to the Rust compare.
+ghost use mathlib.Core.Path.{_≡_};
+ghost use Rattle.errors.specs.AsTheRust.{asTheRust};
+use access::Ending;
+use registers::Chip;
+
+// For a master (`nack`) or a slave. Ours has no more than the Rust today.
+pub fn as_the_rust(ending: Ending, chip: Chip, nack: bool) -> Ending
+    ensures { λ r. ⌜ r ≡ asTheRust chip nack ending ⌝ }
+{
+    ending
+}

@@ -1,0 +1,38 @@
+-- Ours: the text of Rust.antt with our parts in the place of the Rust's, each function under its own name.
+use mathlib.Core.Bool.{false}
+use mathlib.Core.List.{List}
+use Prim.Native.Nat.{ℕ}
+use Rattle.registers.specs.declared.chip.Chip.{Chip}
+use Rattle.access.specs.Program.{Blocking}
+use Rattle.errors.specs.Check.{check-errors}
+use Rattle.slave.specs.declared.command.SlaveCommand.{SlaveCommand}
+use Rattle.slave.specs.Rust as text
+use Rattle.slave.specs.Rust.{SendStatus, send-status}
+
+-- ---- our parts
+
+module _ (chip : Chip) where
+  abbrev pub slave-handle-errors : ℕ → Blocking (Unit {0})
+  slave-handle-errors = check-errors chip false
+
+-- a reply counts as the Rust's does
+abbrev pub Counts : Type 0
+Counts = SendStatus
+
+abbrev pub counts : ℕ → ℕ → ℕ → Counts
+counts star1 = send-status
+
+-- ---- the text with them
+
+module _ (chip : Chip) where
+  abbrev pub check-errors-and-time : ℕ → Blocking (Unit {0})
+  check-errors-and-time = text.check-errors-and-time chip (slave-handle-errors chip)
+
+  abbrev pub blocking-listen : Blocking SlaveCommand
+  blocking-listen = text.blocking-listen chip (slave-handle-errors chip)
+
+  abbrev pub blocking-respond-to-write : ℕ → Blocking ℕ
+  blocking-respond-to-write = text.blocking-respond-to-write chip (slave-handle-errors chip)
+
+  abbrev pub blocking-respond-to-read : List ℕ → Blocking Counts
+  blocking-respond-to-read = text.blocking-respond-to-read chip (slave-handle-errors chip) Counts counts
