@@ -40,16 +40,21 @@ $(CHIP_LIBS): $(ORACLE)/libchip%.rlib: $(ORACLE)/librecord.rlib $(SHIM_LIBS) $(H
 $(ORACLE)/liboracle.rlib: $(ORACLE)/librecord.rlib $(PROGRAM)
 	$(RLIB) --extern record=$(ORACLE)/librecord.rlib --crate-name oracle oracle/program/lib.rs
 
-# A program over the four chips; some are linked with the C library.
-BIN = $(RUST) --extern record=$(ORACLE)/librecord.rlib --extern oracle=$(ORACLE)/liboracle.rlib $(CHIPS)
+# The library's ends as the Rust's.
+$(ORACLE)/as_the_rust.o: oracle/as_the_rust.c oracle/as_the_rust.h
+	@mkdir -p $(ORACLE)
+	$(CC) -std=c99 -O2 -Wall -Wextra -c -o $@ $<
 
-$(ORACLE)/oracle: $(ORACLE)/liboracle.rlib $(CHIP_LIBS)
+# A program over the four chips; some are linked with the C library.
+BIN = $(RUST) --extern record=$(ORACLE)/librecord.rlib --extern oracle=$(ORACLE)/liboracle.rlib $(CHIPS) -C link-arg=$(ORACLE)/as_the_rust.o
+
+$(ORACLE)/oracle: $(ORACLE)/liboracle.rlib $(CHIP_LIBS) $(ORACLE)/as_the_rust.o
 	$(BIN) --crate-name oracle_program -o $@ oracle/program/oracle.rs
 
-$(ORACLE)/compare: $(ORACLE)/liboracle.rlib $(CHIP_LIBS) $(CH32_LIB)
+$(ORACLE)/compare: $(ORACLE)/liboracle.rlib $(CHIP_LIBS) $(ORACLE)/as_the_rust.o $(CH32_LIB)
 	$(BIN) -C link-arg=$(CH32_LIB) --crate-name compare -o $@ oracle/program/compare.rs
 
-$(ORACLE)/speed: $(ORACLE)/liboracle.rlib $(CHIP_LIBS) $(CH32_LIB)
+$(ORACLE)/speed: $(ORACLE)/liboracle.rlib $(CHIP_LIBS) $(ORACLE)/as_the_rust.o $(CH32_LIB)
 	$(BIN) -C link-arg=$(CH32_LIB) --crate-name speed -o $@ oracle/program/speed.rs
 
 .PHONY: speed compare compare-faults sample oracle-check replay-c compare-bench
@@ -66,9 +71,9 @@ speed: $(ORACLE)/speed
 FAULTS = $(wildcard oracle/faults/*.patch)
 FAULT_RESULTS = $(FAULTS:oracle/faults/%.patch=$(ORACLE)/faults/%/result)
 
-$(FAULT_RESULTS): $(ORACLE)/faults/%/result: oracle/faults/%.patch $(HAL) $(ORACLE)/liboracle.rlib $(SHIM_LIBS) $(CH32_LIB)
+$(FAULT_RESULTS): $(ORACLE)/faults/%/result: oracle/faults/%.patch $(HAL) $(ORACLE)/liboracle.rlib $(SHIM_LIBS) $(ORACLE)/as_the_rust.o $(CH32_LIB)
 	@rm -rf $(@D) && mkdir -p $(@D)/src && cp -r oracle/hal oracle/carried $(@D)/src
-	@cp -p $(ORACLE)/librecord.rlib $(ORACLE)/liboracle.rlib $(SHIM_LIBS) $(@D)
+	@cp -p $(ORACLE)/librecord.rlib $(ORACLE)/liboracle.rlib $(SHIM_LIBS) $(ORACLE)/as_the_rust.o $(@D)
 	@patch -s -p1 -d $(@D)/src < $<
 	@$(MAKE) -s --no-print-directory ORACLE=$(@D) ORACLE_SRC=$(@D)/src ORACLE_OPT=0 $(@D)/compare > $(@D)/log 2>&1
 	@$(@D)/compare until $(SEED) $(CALLS) > $@.new; echo "$*: $$(cat $@.new)"
@@ -80,7 +85,7 @@ LIBRARY_RESULTS = $(LIBRARY_FAULTS:%=$(ORACLE)/library-faults/%/result)
 WRAPPED = init_begin write_begin write_step read_step transaction_step listen_step
 WRAPS = $(WRAPPED:%=-C link-arg=-Wl,--wrap=ch32_i2c_%)
 
-$(LIBRARY_RESULTS): $(ORACLE)/library-faults/%/result: oracle/faults/library.c $(ORACLE)/liboracle.rlib $(CHIP_LIBS) $(CH32_LIB)
+$(LIBRARY_RESULTS): $(ORACLE)/library-faults/%/result: oracle/faults/library.c $(ORACLE)/liboracle.rlib $(CHIP_LIBS) $(ORACLE)/as_the_rust.o $(CH32_LIB)
 	@mkdir -p $(@D) && $(CC) -O1 -DFAULT_$* -c -o $(@D)/fault.o $<
 	@$(BIN) -C link-arg=$(@D)/fault.o $(WRAPS) -C link-arg=$(CH32_LIB) --crate-name compare -o $(@D)/compare oracle/program/compare.rs
 	@$(@D)/compare until $(SEED) $(CALLS) > $@.new; echo "library, $*: $$(cat $@.new)"
@@ -98,9 +103,9 @@ sample: $(ORACLE)/oracle
 
 # The stored sample, run by a C program.
 CH32_INCLUDE ?= include
-$(ORACLE)/replay: oracle/replay.c $(CH32_LIB)
+$(ORACLE)/replay: oracle/replay.c $(ORACLE)/as_the_rust.o $(CH32_LIB)
 	@mkdir -p $(ORACLE)
-	$(CC) -std=c99 -O2 -Wall -Wextra -I$(CH32_INCLUDE) -o $@ $< $(CH32_LIB)
+	$(CC) -std=c99 -O2 -Wall -Wextra -I$(CH32_INCLUDE) -o $@ $^
 
 replay-c: $(ORACLE)/replay
 	$(ORACLE)/replay $(SAMPLE)
@@ -108,9 +113,8 @@ replay-c: $(ORACLE)/replay
 # The bench program BENCH on random transactions, beside the Rust.
 compare-bench: $(ORACLE)/oracle
 	@rm -rf $(ORACLE)/bench && $(ORACLE)/oracle bench-cases $(ORACLE)/bench $(SEED) 2000
-	@for case in $(ORACLE)/bench/*.in; do \
-	  $(BENCH) < $$case | cmp -s - $${case%.in}.out || { echo "differs: $$case"; exit 1; }; \
-	done; echo "$$(ls $(ORACLE)/bench/*.in | wc -l) bench inputs, 0 differences"
+	@for case in $(ORACLE)/bench/*.in; do $(BENCH) < $$case > $${case%.in}.got || exit 1; done
+	@$(ORACLE)/oracle bench-compare $(ORACLE)/bench
 
 # The oracle by itself: the carried files are the originals where these are at hand, document 01's example, the sample.
 ORIGINALS ?= ../shared/docs/src

@@ -3,6 +3,7 @@
 #include <stdlib.h>
 #include <string.h>
 
+#include "as_the_rust.h"
 #include "ch32_i2c.h"
 
 /* No call of the sample is lent more bytes than this, to write or to read. */
@@ -109,6 +110,12 @@ static uint64_t expected(unsigned code, const uint8_t **at, uint16_t *answer)
     return (code >> 4) == 2 ? access | (uint64_t)word << 16 : access;
 }
 
+/* `init` (0) and `init_slave` (5) have no error check; the calls between them are a master's. */
+static uint64_t end_as_the_rust(const struct call *c, uint64_t end)
+{
+    return c->entry == 0 || c->entry == 5 ? end : as_the_rust((uint8_t)c->chip, c->entry < 5, end);
+}
+
 /* One call. Returns whether all is as stored. */
 static int replay(const uint8_t *at)
 {
@@ -123,7 +130,7 @@ static int replay(const uint8_t *at)
         const unsigned code = number(&at, 1);
         uint16_t answer = 0;
         const uint64_t wanted = expected(code, &at, &answer);
-        if (next != wanted)
+        if ((code == 0 ? end_as_the_rust(&c, next) : next) != wanted)
             return 0;
         if (code == 0 && first && wanted != 0 && memcmp(block, block_before, sizeof block) != 0)
             return 0;

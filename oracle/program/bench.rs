@@ -2,7 +2,7 @@
 
 use record::{Call, Entry, Given, Record};
 
-use crate::{rust, text};
+use crate::{ends, rust, text};
 
 fn hex_number(text: &str) -> Option<u16> {
     u16::from_str_radix(text, 16).ok()
@@ -70,4 +70,16 @@ pub fn input_of(call: &Call, answers: &[u16]) -> Option<String> {
         input += &format!("A,{}\n", words.join(","));
     }
     (input.len() <= 65_536).then_some(input)
+}
+
+/// The bench program's output with its end as the Rust's: the line `end,NUMBER,..` goes through `ends`.
+pub fn as_the_rust(input: &str, output: &str) -> Option<String> {
+    let chip = input.strip_prefix("T,")?.split(',').next()?.parse().ok()?;
+    let (start, last) = output.split_at(output.rfind("end,")?);
+    let (number, rest) = last.strip_prefix("end,")?.split_once(',')?;
+    let Ok(number) = number.parse::<u64>() else {
+        return Some(output.into());
+    };
+    let end = ends::of_transfer(chip, number << 8);
+    Some(format!("{start}end,{},{rest}", end >> 8 & 0xff))
 }

@@ -6,6 +6,7 @@ pub mod causes;
 pub mod coverage;
 pub mod document;
 pub mod edges;
+pub mod ends;
 pub mod generate;
 pub mod random;
 pub mod rust;

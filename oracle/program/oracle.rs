@@ -5,6 +5,7 @@
 //!     oracle calls SEED COUNT [ENTRY [CHIP]]    random calls as lines
 //!     oracle sample FILE SEED TRIES lines|ways    chooses the sample and writes it
 //!     oracle bench-cases DIRECTORY SEED COUNT    bench inputs with what the Rust makes of them
+//!     oracle bench-compare DIRECTORY    the bench program's outputs for them, held to the Rust's
 //!     oracle check FILE    runs a sample's calls again
 //!     oracle document    document 01's edges, looked up in what the Rust does
 //!     oracle panics SEED COUNT    bus settings that are refused with 10, 11 or 12, given to the Rust all the same
@@ -124,6 +125,25 @@ fn bench_cases(directory: &str, seed: u64, count: u64) {
     }
 }
 
+/// Holds the bench program's outputs, N.got, to what the Rust made of the inputs N.in.
+fn bench_compare(directory: &str) {
+    let mut count = 0;
+    for entry in std::fs::read_dir(directory).expect("the directory can be read") {
+        let path = entry.expect("the directory can be read").path();
+        if path.extension().is_none_or(|extension| extension != "in") {
+            continue;
+        }
+        let text = |extension| std::fs::read_to_string(path.with_extension(extension)).expect("a text");
+        let got = bench::as_the_rust(&text("in"), &text("got"));
+        if got != Some(text("out")) {
+            println!("differs: {}", path.display());
+            exit(1);
+        }
+        count += 1;
+    }
+    println!("{count} bench inputs, 0 differences");
+}
+
 fn check_sample(path: &str) {
     let bytes = std::fs::read(path).expect("the sample can be read");
     let calls = sample_file::decode(&bytes);
@@ -205,6 +225,7 @@ fn main() {
         }
         ["sample", path, seed, tries, "lines"] => write_sample(path, number(seed), number(tries), Detail::Lines),
         ["sample", path, seed, tries, "ways"] => write_sample(path, number(seed), number(tries), Detail::Ways),
+        ["bench-compare", directory] => bench_compare(directory),
         ["bench-cases", directory, seed, count] => bench_cases(directory, number(seed), number(count)),
         ["document"] => check_document(),
         ["panics", seed, count] => panics(number(seed), number(count)),

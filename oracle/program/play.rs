@@ -1,5 +1,6 @@
 //! Plays a call to the C library with the Rust's answers, and compares everything that can be seen.
 
+use oracle::ends;
 use oracle::random::Random;
 use oracle::rust::{end_number, Outcome};
 use oracle::text::number_text;
@@ -87,6 +88,7 @@ impl Player {
         }
         let last = self.play_accesses(call, outcome, random, first)?;
         if let Some(end) = outcome.end {
+            let last = ends::of_call(call, last);
             check(last == end as u64, || differs("the end", end as u64, last))?;
             for _ in 0..2 {
                 self.refused_step(call.entry, "a step after the end", random)?;

@@ -16,7 +16,7 @@ use Rattle.master.specs.Calls.{refusal}
 use Rattle.ch32_i2c.specs.Fed.{Makes}
 use Rattle.ch32_i2c.specs.Demands.{entryOf, Accepted, refusalOf, SameRuns}
 use Rattle.operation_bytes.specs.Encoded.{encoded}
-use Rattle.operation_list.specs.Claims.{sliceCall, rustOf}
+use Rattle.operation_list.specs.Claims.{sliceCall, oursOf}
 use Rattle.operation_list.proofs.SliceLaws.{slice-is-the-list}
 
 -- two writes, of one byte and of none, and a read of 300
@@ -33,7 +33,7 @@ three-accepted = refl
 
 -- so the claim of its accesses speaks of it, for every list of answers
 three-makes : (answers : List ℕ)
-    → Makes (entryOf (sliceCall 0 0x50 three (7 ∷ []))) (replicate 32 0) (replicate 300 0) answers (rustOf (length answers + 1) 0 0x50 three (7 ∷ []) answers)
+    → Makes (entryOf (sliceCall 0 0x50 three (7 ∷ []))) (replicate 32 0) (replicate 300 0) answers (oursOf (length answers + 1) 0 0x50 three (7 ∷ []) answers)
 three-makes answers = slice-is-the-list .same 0 0x50 three (7 ∷ []) (replicate 32 0) (replicate 300 0) three-accepted (length answers + 1) answers (omega arith)
 
 -- one write, and the read in two parts: the same runs

@@ -1,9 +1,13 @@
 // The nine entries of the library by a stored call's number.
 use crate::stored::Call;
+use access::Ending;
+use access::ending;
 use ch32_i2c::init;
 use ch32_i2c::init_slave;
 use ch32_i2c::response;
 use ch32_i2c::transfer;
+use errors::rust;
+use images::numbers;
 
 pub fn begin(call: Call, block: &mut [u8], list: &[u8], written: &[u8], read: &mut [u8]) -> u64 {
     let chip = call.chip;
@@ -49,4 +53,18 @@ pub fn step(
         7 => response::ch32_i2c_respond_to_write_step(block, read, answer),
         _ => response::ch32_i2c_respond_to_read_step(block, written, answer),
     }
+}
+
+fn ending_in(number: u64) -> Ending {
+    numbers::ending_of((number / 256 % 256) as u8, (number / 65536 % 65536) as u16)
+}
+
+// An end of the library as the Rust's. `init` (0) and `init_slave` (5) have no error check; the calls between them are a
+// master's. What is no end's number stays, and differs from every stored end.
+pub fn as_the_rust(entry: u8, chip: u8, end: u64) -> u64 {
+    let ours = ending_in(end);
+    if (entry == 0) | (entry == 5) | (ending::ending_number(ours) != end) {
+        return end;
+    }
+    ending::ending_number(rust::as_the_rust(ours, numbers::chip_of(chip), entry < 5))
 }

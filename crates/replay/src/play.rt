@@ -129,6 +129,7 @@ fn length_if(same: bool, length: usize) -> usize
 // begin has left the block alone; after any other end a step answers 15.
 fn finish(
     entry: u8,
+    chip: u8,
     is_first: bool,
     next: u64,
     left: &[u8],
@@ -148,7 +149,9 @@ fn finish(
         return 0;
     }
     let number = left[1];
-    if next != stored::end(number, stored::word(left[2], left[3])) {
+    if library::as_the_rust(entry, chip, next)
+        != stored::end(number, stored::word(left[2], left[3]))
+    {
         return 0;
     }
     if is_first & (number != 0) {
@@ -192,6 +195,7 @@ fn ended(
     let entry = call.entry;
     let length = finish(
         entry,
+        call.chip,
         at == 0,
         reached.next,
         left,
