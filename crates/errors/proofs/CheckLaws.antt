@@ -1,7 +1,7 @@
 -- Our error check is the Rust's, its end read as the Rust's.
 -- Assumes nothing.
-use mathlib.Core.Path.{_≡_, refl, sym, subst}
-use mathlib.Core.Bool.{Bool, cond, _&&_}
+use mathlib.Core.Path.{_≡_, refl, subst}
+use mathlib.Core.Bool.{Bool, _&&_}
 use Prim.Native.Nat.{ℕ}
 use Rattle.registers.specs.declared.chip.Chip.{Chip}
 use Rattle.registers.specs.Bits.{BERR, ARLO, AF, OVR, PECERR, TIMEOUT}
@@ -12,10 +12,9 @@ use Rattle.access.specs.declared.ending.Failure.{Failure}
 use Rattle.access.specs.Endings.{failureOf}
 use Rattle.access.specs.Program.{Program}
 use Rattle.alike.specs.Like.{Like, Handles}
-use Rattle.errors.specs.declared.Checked.{Checked}
-use Rattle.errors.specs.declared.Checked.the-variants.{Fine, Failed}
+use Rattle.alike.proofs.LikeLaws.{cases}
 use Rattle.errors.specs.Classes.{errorOf, decided}
-use Rattle.errors.specs.AsTheRust.{asTheRust, OthersStay}
+use Rattle.errors.specs.AsTheRust.{asTheRust, OthersStay, rustChain}
 use Rattle.errors.proofs.ClassLaws.{by-class}
 
 pub others-stay : OthersStay
@@ -24,16 +23,15 @@ others-stay = record { done = λ chip nack v. refl; failures = λ chip nack e. r
 
 -- what our check finds in a word is what the Rust's chain of ifs finds in it
 pub chain-alike : (chip : Chip) (nack : Bool) (w : ℕ) {h h′ : Failure → Program} {p p′ : Program} → Handles (asTheRust chip nack) h h′ → Like (asTheRust chip nack) p p′
-    → Like (asTheRust chip nack) (decided (errorOf chip nack w) (λ e. h (failureOf e)) p)
-    (cond (hasBit ARLO w) (h′ (failureOf Arbitration))
-    (cond (chip .«i2c_v3» && hasBit TIMEOUT w) (h′ (failureOf Timeout))
-    (cond (hasBit PECERR w) (h′ (failureOf Crc))
-    (cond (hasBit OVR w) (h′ (failureOf Overrun))
-    (cond (nack && hasBit AF w) (h′ (failureOf Nack))
-    (cond (chip .ch32v4 && hasBit BERR w) (h′ (failureOf Bus)) p′))))))
+    → Like (asTheRust chip nack) (decided (errorOf chip nack w) h p) (rustChain chip nack w h′ p′)
 chain-alike chip nack w {h} {h′} {p} {p′} H K =
-    subst (λ (q : Program). Like (asTheRust chip nack) (decided (errorOf chip nack w) (λ e. h (failureOf e)) p) q) (sym (by-class chip nack w (λ e. h′ (failureOf e)) p′)) (go (errorOf chip nack w))
+    subst (λ (q : Program). Like (asTheRust chip nack) q (rustChain chip nack w h′ p′)) (by-class chip nack w h p)
+    (cases (hasBit ARLO w) (same Arbitration)
+    (cases (chip .«i2c_v3» && hasBit TIMEOUT w) (same Timeout)
+    (cases (hasBit PECERR w) (same Crc)
+    (cases (hasBit OVR w) (same Overrun)
+    (cases (nack && hasBit AF w) (same Nack)
+    (cases (chip .ch32v4 && hasBit BERR w) (same Bus) K))))))
   where
-    go : (c : Checked) → Like (asTheRust chip nack) (decided c (λ e. h (failureOf e)) p) (decided c (λ e. h′ (failureOf e)) p′)
-    go (Failed e) = H .after (failureOf e) (failureOf e) (others-stay .failures chip nack e)
-    go Fine = K
+    same : (e : Error) → Like (asTheRust chip nack) (h (failureOf e)) (h′ (failureOf e))
+    same e = H .after (failureOf e) (failureOf e) (others-stay .failures chip nack e)

@@ -12,36 +12,36 @@ use Rattle.registers.specs.declared.chip.Chip.{Chip}
 use Rattle.registers.specs.Bits.{BERR, ARLO, AF, OVR, PECERR, TIMEOUT}
 use Rattle.registers.specs.Word.{hasBit}
 use Rattle.registers.specs.Flags.{errorFlags}
-use Rattle.access.specs.declared.ending.Error.{Error}
 use Rattle.access.specs.declared.ending.Error.the-variants.{Bus, Arbitration, Nack, Timeout, Crc, Overrun}
-use Rattle.access.specs.Endings.{isMet}
+use Rattle.access.specs.declared.ending.Failure.{Failure}
+use Rattle.access.specs.Endings.{failureOf, isMet}
 use Rattle.errors.specs.declared.Checked.{Checked}
 use Rattle.errors.specs.declared.Checked.the-variants.{Fine, Failed}
 use Rattle.errors.specs.Classes.{class, only, firstOf, errorOf, decided}
 
-decided-if {ℓ} : {X : Type ℓ} (t : Bool) (e : Error) (c : Checked) (h : Error → X) (p : X) → decided (cond t (Failed e) c) h p ≡ cond t (h e) (decided c h p)
-decided-if true e c h p = refl
-decided-if false e c h p = refl
+decided-if {ℓ} : {X : Type ℓ} (t : Bool) (f : Failure) (c : Checked) (h : Failure → X) (p : X) → decided (cond t (Failed f) c) h p ≡ cond t (h f) (decided c h p)
+decided-if true f c h p = refl
+decided-if false f c h p = refl
 
 -- the Rust's chain of ifs goes by the class
-pub by-class {ℓ} : {X : Type ℓ} (chip : Chip) (nack : Bool) (w : ℕ) (h : Error → X) (p : X)
-    → cond (hasBit ARLO w) (h Arbitration)
-    (cond (chip .«i2c_v3» && hasBit TIMEOUT w) (h Timeout)
-    (cond (hasBit PECERR w) (h Crc)
-    (cond (hasBit OVR w) (h Overrun)
-    (cond (nack && hasBit AF w) (h Nack)
-    (cond (chip .ch32v4 && hasBit BERR w) (h Bus) p)))))
+pub by-class {ℓ} : {X : Type ℓ} (chip : Chip) (nack : Bool) (w : ℕ) (h : Failure → X) (p : X)
+    → cond (hasBit ARLO w) (h (failureOf Arbitration))
+    (cond (chip .«i2c_v3» && hasBit TIMEOUT w) (h (failureOf Timeout))
+    (cond (hasBit PECERR w) (h (failureOf Crc))
+    (cond (hasBit OVR w) (h (failureOf Overrun))
+    (cond (nack && hasBit AF w) (h (failureOf Nack))
+    (cond (chip .ch32v4 && hasBit BERR w) (h (failureOf Bus)) p)))))
     ≡ decided (errorOf chip nack w) h p
 unfolding errorOf
 by-class chip nack w h p = go (chip .«i2c_v3») nack (chip .ch32v4)
   where
     go : (v3 n v4 : Bool)
-        → cond (hasBit ARLO w) (h Arbitration)
-        (cond (v3 && hasBit TIMEOUT w) (h Timeout)
-        (cond (hasBit PECERR w) (h Crc)
-        (cond (hasBit OVR w) (h Overrun)
-        (cond (n && hasBit AF w) (h Nack)
-        (cond (v4 && hasBit BERR w) (h Bus) p)))))
+        → cond (hasBit ARLO w) (h (failureOf Arbitration))
+        (cond (v3 && hasBit TIMEOUT w) (h (failureOf Timeout))
+        (cond (hasBit PECERR w) (h (failureOf Crc))
+        (cond (hasBit OVR w) (h (failureOf Overrun))
+        (cond (n && hasBit AF w) (h (failureOf Nack))
+        (cond (v4 && hasBit BERR w) (h (failureOf Bus)) p)))))
         ≡ decided
         (firstOf
         (class ARLO Arbitration ∷ only v3 (class TIMEOUT Timeout)
@@ -59,17 +59,17 @@ by-class chip nack w h p = go (chip .«i2c_v3») nack (chip .ch32v4)
 
 -- the same of the class itself
 pub as-ifs : (chip : Chip) (nack : Bool) (w : ℕ)
-    → cond (hasBit ARLO w) (Failed Arbitration)
-    (cond (chip .«i2c_v3» && hasBit TIMEOUT w) (Failed Timeout)
-    (cond (hasBit PECERR w) (Failed Crc)
-    (cond (hasBit OVR w) (Failed Overrun)
-    (cond (nack && hasBit AF w) (Failed Nack)
-    (cond (chip .ch32v4 && hasBit BERR w) (Failed Bus) Fine)))))
+    → cond (hasBit ARLO w) (Failed (failureOf Arbitration))
+    (cond (chip .«i2c_v3» && hasBit TIMEOUT w) (Failed (failureOf Timeout))
+    (cond (hasBit PECERR w) (Failed (failureOf Crc))
+    (cond (hasBit OVR w) (Failed (failureOf Overrun))
+    (cond (nack && hasBit AF w) (Failed (failureOf Nack))
+    (cond (chip .ch32v4 && hasBit BERR w) (Failed (failureOf Bus)) Fine)))))
     ≡ errorOf chip nack w
 as-ifs chip nack w = by-class chip nack w Failed Fine ∙ same (errorOf chip nack w)
   where
     same : (c : Checked) → decided c Failed Fine ≡ c
-    same (Failed e) = refl
+    same (Failed f) = refl
     same Fine = refl
 
 -- a word without error flags shows no error
@@ -107,7 +107,7 @@ no-flags chip nack w z =
     )
     (rest (chip .«i2c_v3») nack (chip .ch32v4))
   where
-    rest : (a b c : Bool) → cond (a && false) (Failed Timeout) (cond (b && false) (Failed Nack) (cond (c && false) (Failed Bus) Fine)) ≡ Fine
+    rest : (a b c : Bool) → cond (a && false) (Failed (failureOf Timeout)) (cond (b && false) (Failed (failureOf Nack)) (cond (c && false) (Failed (failureOf Bus)) Fine)) ≡ Fine
     rest true true true = refl
     rest true true false = refl
     rest true false true = refl
@@ -122,9 +122,9 @@ either : (b : Bool) {A B : Type 0} → A → B → cond b A B
 either true x y = x
 either false x y = y
 
-pub class-met : (chip : Chip) (nack : Bool) (w : ℕ) → decided (errorOf chip nack w) (λ e. isMet e ≡ true) (Unit {0})
+pub class-met : (chip : Chip) (nack : Bool) (w : ℕ) → decided (errorOf chip nack w) (λ f. isMet (f .error) ≡ true) (Unit {0})
 class-met chip nack w =
-    subst (λ (T : Type 0). T) (by-class chip nack w (λ e. isMet e ≡ true) (Unit {0}))
+    subst (λ (T : Type 0). T) (by-class chip nack w (λ f. isMet (f .error) ≡ true) (Unit {0}))
     (either (hasBit ARLO w) refl
     (either (chip .«i2c_v3» && hasBit TIMEOUT w) refl
     (either (hasBit PECERR w) refl

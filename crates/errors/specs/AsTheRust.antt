@@ -1,11 +1,15 @@
 -- Our end as the Rust's: what the Rust lacks is forgotten. Ours has no more than the Rust today, so nothing is.
 use mathlib.Core.Path.{_≡_}
-use mathlib.Core.Bool.{Bool}
+use mathlib.Core.Bool.{Bool, cond, _&&_}
 use Prim.Native.Nat.{ℕ}
 use Rattle.registers.specs.declared.chip.Chip.{Chip}
+use Rattle.registers.specs.Bits.{BERR, ARLO, AF, OVR, PECERR, TIMEOUT}
+use Rattle.registers.specs.Word.{hasBit}
 use Rattle.access.specs.declared.ending.Ending.{Ending}
 use Rattle.access.specs.declared.ending.Error.{Error}
-use Rattle.access.specs.Endings.{returned, failed}
+use Rattle.access.specs.declared.ending.Error.the-variants.{Bus, Arbitration, Nack, Timeout, Crc, Overrun}
+use Rattle.access.specs.declared.ending.Failure.{Failure}
+use Rattle.access.specs.Endings.{failureOf, returned, failed}
 
 -- for a chip, and a master (`nack`) or a slave
 unfoldable pub asTheRust : Chip → Bool → Ending → Ending
@@ -15,3 +19,13 @@ asTheRust chip nack e = e
 pub record OthersStay : Type 0 where
   pub done : (chip : Chip) (nack : Bool) (v : ℕ) → asTheRust chip nack (returned v) ≡ returned v
   pub failures : (chip : Chip) (nack : Bool) (e : Error) → asTheRust chip nack (failed e) ≡ failed e
+
+-- the Rust's chain of ifs over a status word: h after an error, and p after none
+abbrev pub rustChain {ℓ} : {X : Type ℓ} → Chip → Bool → ℕ → (Failure → X) → X → X
+rustChain chip nack w h p =
+    cond (hasBit ARLO w) (h (failureOf Arbitration))
+    (cond (chip .«i2c_v3» && hasBit TIMEOUT w) (h (failureOf Timeout))
+    (cond (hasBit PECERR w) (h (failureOf Crc))
+    (cond (hasBit OVR w) (h (failureOf Overrun))
+    (cond (nack && hasBit AF w) (h (failureOf Nack))
+    (cond (chip .ch32v4 && hasBit BERR w) (h (failureOf Bus)) p)))))

@@ -5,14 +5,13 @@ use lib.Dec.{eqb}
 use Rattle.registers.specs.declared.chip.Chip.{Chip}
 use Rattle.registers.specs.declared.register.Register.the-variants.{Star1}
 use Rattle.registers.specs.Flags.{errorFlags, clearError}
-use Rattle.access.specs.Endings.{failureOf}
 use Rattle.access.specs.Program.{Blocking, writeRegister, onlyIf, _>>_}
 use Rattle.errors.specs.declared.Checked.{Checked}
 use Rattle.errors.specs.Classes.{errorOf, decided}
 
 -- the error of a word's class, if it has one
 abbrev pub report : Checked → Blocking (Unit {0})
-report c = λ n h k. decided c (λ e. h (failureOf e)) (k tt)
+report c = λ n h k. decided c h (k tt)
 
 unfoldable pub check-errors : Chip → Bool → ℕ → Blocking (Unit {0})
 check-errors chip nack status = do

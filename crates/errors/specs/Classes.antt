@@ -7,6 +7,8 @@ use Rattle.registers.specs.Bits.{BERR, ARLO, AF, OVR, PECERR, TIMEOUT}
 use Rattle.registers.specs.Word.{hasBit}
 use Rattle.access.specs.declared.ending.Error.{Error}
 use Rattle.access.specs.declared.ending.Error.the-variants.{Bus, Arbitration, Nack, Timeout, Crc, Overrun}
+use Rattle.access.specs.declared.ending.Failure.{Failure}
+use Rattle.access.specs.Endings.{failureOf}
 use Rattle.errors.specs.declared.Checked.{Checked}
 use Rattle.errors.specs.declared.Checked.the-variants.{Fine, Failed}
 
@@ -31,12 +33,12 @@ classes chip nack =
 -- the first flag that is set
 abbrev pub firstOf : List Class → ℕ → Checked
 firstOf [] w = Fine
-firstOf (c ∷ cs) w = cond (hasBit (c .flag) w) (Failed (c .error)) (firstOf cs w)
+firstOf (c ∷ cs) w = cond (hasBit (c .flag) w) (Failed (failureOf (c .error))) (firstOf cs w)
 
 unfoldable pub errorOf : Chip → Bool → ℕ → Checked
 errorOf chip nack w = firstOf (classes chip nack) w
 
 -- what follows a class: h after an error, and p after none
-abbrev pub decided {ℓ} : {X : Type ℓ} → Checked → (Error → X) → X → X
-decided (Failed e) h p = h e
+abbrev pub decided {ℓ} : {X : Type ℓ} → Checked → (Failure → X) → X → X
+decided (Failed f) h p = h f
 decided Fine h p = p

@@ -12,7 +12,7 @@ use Rattle.errors.specs.Classes.{errorOf}
 
 abbrev pub answered : Checked → List ℕ
 answered Fine = 0 ∷ []
-answered (Failed e) = errorNumber e ∷ []
+answered (Failed f) = errorNumber (f .error) ∷ []
 
 abbrev pub statusEdges : List Edge
 statusEdges = map (λ (chip : Chip). record { given = answered (errorOf chip true 0x0600); expected = 2 ∷ [] }) chips

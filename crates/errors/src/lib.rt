@@ -2,15 +2,25 @@
 pub mod rust;
 
 ghost use mathlib.Core.Path.{_≡_};
+ghost use Rattle.access.specs.Endings.{failureOf};
+ghost use Rattle.errors.specs.declared.Checked.the-variants as checked;
 ghost use Rattle.errors.specs.Classes.{errorOf};
 use access::Error;
+use access::Failure;
+use access::ending;
 use registers::Chip;
 use registers::bits;
 use registers::word;
 
 pub enum Checked {
     Fine,
-    Failed(Error),
+    Failed(Failure),
+}
+
+fn failed(error: Error) -> Checked
+    ensures { λ r. ⌜ r ≡ checked.Failed (failureOf error) ⌝ }
+{
+    Checked::Failed(ending::failure_of(error))
 }
 
 // The error of a STAR1 word. AF decides for a master (`nack`), and never for a slave.
@@ -18,22 +28,22 @@ pub fn error_of(status: u16, chip: Chip, nack: bool) -> Checked
     ensures { λ r. ⌜ r ≡ errorOf chip nack status ⌝ }
 {
     if word::bit(status, bits::ARLO) {
-        return Checked::Failed(Error::Arbitration);
+        return failed(Error::Arbitration);
     }
     if chip.i2c_v3 & word::bit(status, bits::TIMEOUT) {
-        return Checked::Failed(Error::Timeout);
+        return failed(Error::Timeout);
     }
     if word::bit(status, bits::PECERR) {
-        return Checked::Failed(Error::Crc);
+        return failed(Error::Crc);
     }
     if word::bit(status, bits::OVR) {
-        return Checked::Failed(Error::Overrun);
+        return failed(Error::Overrun);
     }
     if nack & word::bit(status, bits::AF) {
-        return Checked::Failed(Error::Nack);
+        return failed(Error::Nack);
     }
     if chip.ch32v4 & word::bit(status, bits::BERR) {
-        return Checked::Failed(Error::Bus);
+        return failed(Error::Bus);
     }
     Checked::Fine
 }

@@ -9,7 +9,7 @@ use lib.Dec.{eqb, leb, ltb}
 use Rattle.registers.specs.Word.{hasBit}
 use Rattle.registers.specs.Flags.{errorFlags}
 use Rattle.registers.specs.Bits.{START, STOP, SB, RXNE, MSL}
-use Rattle.access.specs.declared.ending.Error.{Error}
+use Rattle.access.specs.declared.ending.Failure.{Failure}
 use Rattle.access.specs.declared.ending.Error.the-variants.{Arbitration, Timeout}
 use Rattle.access.specs.Endings.{failureOf, isMet, isDone, hasFailed}
 use Rattle.access.specs.Program.{late}
@@ -231,10 +231,10 @@ module _ (sh : Shape) (sound : Sound sh) where
           go false q = either-true (eqb (r .length) 1) (lt-ltb 3 (d .left) (above-three (d .left) p (eqb-false _ _ q) (eqb-false _ _ n2) (eqb-false _ _ n3)))
 
   -- an error
-  fails-fits : {r : Run} {d : Progress} (e : Error) → Here r d → isMet e ≡ true → Fit (fails (failureOf e) d)
-  fails-fits {r} {d} e h m = at (Abort abort.FinishRead) _ (h .where-in .found) (both-true (in-counts same-counts) (both-true m refl))
+  fails-fits : {r : Run} {d : Progress} (x : Failure) → Here r d → isMet (x .error) ≡ true → Fit (fails x d)
+  fails-fits {r} {d} x h m = at (Abort abort.FinishRead) _ (h .where-in .found) (both-true (in-counts same-counts) (both-true m refl))
     where
-      same-counts : In r (fails (failureOf e) d .progress)
+      same-counts : In r (fails x d .progress)
       same-counts = record { found = h .where-in .found; same = h .where-in .same; within = h .where-in .within; rest = h .where-in .rest }
 
   -- the last run is over: where STOP is asked no other follows
@@ -302,8 +302,8 @@ module _ (sh : Shape) (sound : Sound sh) where
   tests-fits : {r : Run} {d : Progress} (f : Flag) (w : ℕ) → Here r d → fitsWait g r f d ≡ true → Fit (tests g r f d w)
   tests-fits {r} {d} f w h e = chosen Fit (not (isSet f w)) (λ _. waiting-fits f wait.Clock h e) (λ _. waited-fits f h e)
 
-  judged-fits : {r : Run} {d : Progress} (f : Flag) (c : Checked) (w : ℕ) → decided c (λ e. isMet e ≡ true) (Unit {0}) → Here r d → fitsWait g r f d ≡ true
-      → Fit (decided c (λ e. fails (failureOf e) d) (tests g r f d w))
+  judged-fits : {r : Run} {d : Progress} (f : Flag) (c : Checked) (w : ℕ) → decided c (λ x. isMet (x .error) ≡ true) (Unit {0}) → Here r d → fitsWait g r f d ≡ true
+      → Fit (decided c (λ x. fails x d) (tests g r f d w))
   judged-fits f (checked.Failed x) w m h e = fails-fits x h m
   judged-fits f checked.Fine w m h e = tests-fits f w h e
 
@@ -321,7 +321,7 @@ module _ (sh : Shape) (sound : Sound sh) where
   waits-fits {r} {d} f wait.Status a h e =
       chosen Fit (not (eqb (errorFlags a) 0)) (λ _. waiting-fits f wait.Clear (saved a h) (same-wait r d f a e)) (λ _. tests-fits f a h e)
   waits-fits {r} {d} f wait.Clear a h e = judged-fits f (errorOf (g .chip) true (d .word)) (d .word) (class-met (g .chip) true (d .word)) h e
-  waits-fits {r} {d} f wait.Clock a h e = chosen Fit (late a) (λ _. fails-fits Timeout h refl) (λ _. waiting-fits f wait.Status h e)
+  waits-fits {r} {d} f wait.Clock a h e = chosen Fit (late a) (λ _. fails-fits (failureOf Timeout) h refl) (λ _. waiting-fits f wait.Status h e)
 
   -- ---- the other groups of stages
 
@@ -336,7 +336,7 @@ module _ (sh : Shape) (sound : Sound sh) where
   stop-fits {r} {d} f falling.Control a h e =
       chosen Fit (hasBit STOP a) (λ _. at (WaitStop f falling.Clock) d (h .where-in .found) (running h e)) (λ _. fallen-fits f h e)
   stop-fits {r} {d} f falling.Clock a h e =
-      chosen Fit (late a) (λ _. fails-fits Timeout h refl) (λ _. at (WaitStop f falling.Control) d (h .where-in .found) (running h e))
+      chosen Fit (late a) (λ _. fails-fits (failureOf Timeout) h refl) (λ _. at (WaitStop f falling.Control) d (h .where-in .found) (running h e))
 
   launch-fits : {r : Run} {d : Progress} (st : LaunchStage) (a : ℕ) → Here r d → starting g r d ≡ true → Fit (launchStart st d a)
   launch-fits {r} {d} launch.Control a h e =
@@ -369,9 +369,9 @@ module _ (sh : Shape) (sound : Sound sh) where
 
   address-fits : {r : Run} {d : Progress} (st : AddressStage) (a : ℕ) → Here r d → starting g r d ≡ true → Fit (addressPhase g r st d a)
   address-fits {r} {d} address.Control a h e =
-      chosen Fit (hasBit START a) (λ _. fails-fits Arbitration h refl) (λ _. at (Address address.Master) d (h .where-in .found) (running h e))
+      chosen Fit (hasBit START a) (λ _. fails-fits (failureOf Arbitration) h refl) (λ _. at (Address address.Master) d (h .where-in .found) (running h e))
   address-fits {r} {d} address.Master a h e =
-      chosen Fit (not (hasBit MSL a)) (λ _. fails-fits Arbitration h refl) (λ _. at (Address address.Word) d (h .where-in .found) (running h e))
+      chosen Fit (not (hasBit MSL a)) (λ _. fails-fits (failureOf Arbitration) h refl) (λ _. at (Address address.Word) d (h .where-in .found) (running h e))
   address-fits address.Word a h e = waiting-fits Addr wait.Status h e
   address-fits address.Cleared a h e = addressed-fits h e
 

@@ -169,8 +169,8 @@ module _ (sh : Shape) (bytes : List ℕ) where
   -- ---- check_and_clear_error_flags
 
   judged-agrees : (n at : ℕ) (c : Checked) (h : Failure → Program) (p : Program) (d : Progress) (m : Move) → Handles n h → Ag n at p m
-      → Ag n at (decided c (λ e. h (failureOf e)) p) (decided c (λ e. fails (failureOf e) d) m)
-  judged-agrees n at (checked.Failed e) h p d m H K = H at (failureOf e) d
+      → Ag n at (decided c h p) (decided c (λ x. fails x d) m)
+  judged-agrees n at (checked.Failed x) h p d m H K = H at x d
   judged-agrees n at checked.Fine h p d m H K = K
 
   pub check-and-clear-error-flags-agrees : (m n at : ℕ) (f : Flag) (h : Failure → Program) (k : ℕ → Program) (d : Progress) → Handles m h
@@ -180,7 +180,7 @@ module _ (sh : Shape) (bytes : List ℕ) where
   check-and-clear-error-flags-agrees m n at f h k d H K =
       reads-first refl (λ a. cases-with (not (eqb (errorFlags a) 0))
       (λ _. writes refl (λ _. judged-agrees m at (errorOf chip true a) h (k a) (saves a d) _ H (K a a)))
-      (λ clear. program-is (ap (λ c. decided c (λ e. h (failureOf e)) (k a)) (no-flags chip true a (eqb-true _ _ (not-false _ clear)))) (K a (d .word))))
+      (λ clear. program-is (ap (λ c. decided c h (k a)) (no-flags chip true a (eqb-true _ _ (not-false _ clear)))) (K a (d .word))))
 
   -- ---- the waits
 

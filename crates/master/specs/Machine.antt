@@ -192,7 +192,7 @@ module _ (g : Setting) (r : Run) where
 
   -- the flags of the status word w are cleared: the first decides
   abbrev pub judged : Flag → Progress → ℕ → Move
-  judged f d w = decided (errorOf (g .chip) true w) (λ e. fails (failureOf e) d) (tests f d w)
+  judged f d w = decided (errorOf (g .chip) true w) (λ x. fails x d) (tests f d w)
 
   -- the status word a: its error flags are to be cleared, or there is none
   abbrev pub checkAndClearErrorFlags : Flag → Progress → ℕ → Move

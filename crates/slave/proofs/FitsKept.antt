@@ -11,7 +11,7 @@ use Rattle.registers.specs.Bits.{ADDMODE, ADDR, STOPF, RXNE, TXE, AF, MSL, BUSY
 use Rattle.registers.specs.Fields.{«ADD9_0», «ADD7_1», ADD2}
 use Rattle.registers.specs.Word.{hasBit, fieldOf}
 use Rattle.registers.specs.Flags.{errorFlags}
-use Rattle.access.specs.declared.ending.Error.{Error}
+use Rattle.access.specs.declared.ending.Failure.{Failure}
 use Rattle.access.specs.declared.ending.Error.the-variants.{Timeout}
 use Rattle.access.specs.Endings.{failureOf, isMet, isDone, hasFailed}
 use Rattle.access.specs.Program.{late}
@@ -84,8 +84,8 @@ module _ (chip : Chip) (size : ℕ) where
     abbrev Counts : Type 0
     Counts = counts (G x) d ≡ true
 
-    fails-fits : (e : Error) → Counts → isMet e ≡ true → Fit x (fails (failureOf e) d)
-    fails-fits e c m = at x (Abort abort.DisableRead) _ (both-true c m)
+    fails-fits : (f : Failure) → Counts → isMet (f .error) ≡ true → Fit x (fails f d)
+    fails-fits f c m = at x (Abort abort.DisableRead) _ (both-true c m)
 
     -- no end is known yet
     open-counts : (b : Bool) → runs (G x) b d ≡ true → Counts
@@ -113,8 +113,8 @@ module _ (chip : Chip) (size : ℕ) where
     errors-fit : (a : ℕ) → runs (G x) true d ≡ true → Fit x (slaveHandleErrors d a)
     errors-fit a e = chosen (Fit x) (not (eqb (errorFlags a) 0)) (λ _. at x (Errors errors.Clear) (saves a d) e) (λ _. at x (Errors errors.Clock) d e)
 
-    judged-fits : (c : Checked) → decided c (λ e. isMet e ≡ true) (Unit {0}) → runs (G x) true d ≡ true
-        → Fit x (decided c (λ e. fails (failureOf e) d) (to (Errors errors.Clock) d))
+    judged-fits : (c : Checked) → decided c (λ f. isMet (f .error) ≡ true) (Unit {0}) → runs (G x) true d ≡ true
+        → Fit x (decided c (λ f. fails f d) (to (Errors errors.Clock) d))
     judged-fits (checked.Failed y) m e = fails-fits y (open-counts true e) m
     judged-fits checked.Fine m e = at x (Errors errors.Clock) d e
 
@@ -197,7 +197,7 @@ module _ (chip : Chip) (size : ℕ) where
   kept-at x (ClearAf half.Read) d a e = at x (ClearAf half.Write) (saves a d) e
   kept-at x (ClearAf half.Write) d a e = at x Ended d (closed x d _ e)
   kept-at x (Errors errors.Clear) d a e = judged-fits x d (errorOf chip false (d .word)) (class-met chip false (d .word)) e
-  kept-at x (Errors errors.Clock) d a e = chosen (Fit x) (late a) (λ _. fails-fits x d Timeout (open-counts x d true e) refl) (λ _. at x Poll d e)
+  kept-at x (Errors errors.Clock) d a e = chosen (Fit x) (late a) (λ _. fails-fits x d (failureOf Timeout) (open-counts x d true e) refl) (λ _. at x Poll d e)
   kept-at x (Abort abort.DisableRead) d a e = at x (Abort abort.DisableWrite) (saves a d) e
   kept-at x (Abort abort.DisableWrite) d a e = at x (Abort abort.Busy) d e
   kept-at x (Abort abort.Busy) d a e = chosen (Fit x) (hasBit BUSY a && not (hasBit MSL a)) (λ _. at x (Abort abort.StopRead) d e) (λ _. at x Ended d (aborted x d e))

@@ -125,9 +125,9 @@ module _ (chip : Chip) (m n : ℕ) where
 
   -- the first error decides
   judged : (c : Checked) (w c₁ c₂ : ℕ) (e₁ e₂ : Ending)
-      → SamePoint (decided c (λ e. fails (failureOf e) (record { count = c₁; word = w; ending = e₁ })) (to (Errors errors.Clock) (record { count = c₁; word = w; ending = e₁ })))
-      (decided c (λ e. fails (failureOf e) (record { count = c₂; word = w; ending = e₂ })) (to (Errors errors.Clock) (record { count = c₂; word = w; ending = e₂ })))
-  judged (checked.Failed e) w c₁ c₂ e₁ e₂ = same _ w c₁ c₂ _ _
+      → SamePoint (decided c (λ f. fails f (record { count = c₁; word = w; ending = e₁ })) (to (Errors errors.Clock) (record { count = c₁; word = w; ending = e₁ })))
+      (decided c (λ f. fails f (record { count = c₂; word = w; ending = e₂ })) (to (Errors errors.Clock) (record { count = c₂; word = w; ending = e₂ })))
+  judged (checked.Failed f) w c₁ c₂ e₁ e₂ = same _ w c₁ c₂ _ _
   judged checked.Fine w c₁ c₂ e₁ e₂ = same _ w c₁ c₂ e₁ e₂
 
   moves-at : (st : Stage) (w c₁ c₂ : ℕ) (e₁ e₂ : Ending) (a : ℕ)

@@ -85,8 +85,8 @@ module _ (g : Setting) (bytes : List ℕ) where
   -- ---- errors and the clock, at the end of a turn
 
   judged-agrees : (m n at : ℕ) (c : Checked) (p : Program) (d : Progress) (t : Move) → Ag m at p t
-      → Ag m at (decided c (λ e. aborts n (failureOf e)) p) (decided c (λ e. fails (failureOf e) d) t)
-  judged-agrees m n at (checked.Failed e) p d t K = abort-slave-transfer-agrees m n at (failureOf e) d
+      → Ag m at (decided c (aborts n) p) (decided c (λ x. fails x d) t)
+  judged-agrees m n at (checked.Failed x) p d t K = abort-slave-transfer-agrees m n at x d
   judged-agrees m n at checked.Fine p d t K = K
 
   abbrev asking : ℕ → Program → Program
@@ -103,7 +103,7 @@ module _ (g : Setting) (bytes : List ℕ) where
   check-errors-and-time-agrees m n at a again d K =
       cases-with (not (eqb (errorFlags a) 0))
       (λ _. writes refl (λ _. judged-agrees m n at (errorOf (g .chip) false a) _ (saves a d) _ (clock-agrees m n at again (saves a d) (K a))))
-      (λ clear. program-is (ap (λ c. decided c (λ e. aborts n (failureOf e)) (asking n again)) (no-flags (g .chip) false a (eqb-true _ _ (not-false _ clear))))
+      (λ clear. program-is (ap (λ c. decided c (aborts n) (asking n again)) (no-flags (g .chip) false a (eqb-true _ _ (not-false _ clear))))
       (clock-agrees m n at again d (K (d .word))))
 
   -- ---- listen

@@ -111,7 +111,7 @@ slaveHandleErrors d a = cond (not (eqb (errorFlags a) 0)) (to (Errors errors.Cle
 
 -- the flags are cleared: the first decides, and AF decides nothing
 abbrev pub checkErrorsAndTime : Chip → ErrorStage → Progress → ℕ → Move
-checkErrorsAndTime chip errors.Clear d a = decided (errorOf chip false (d .word)) (λ e. fails (failureOf e) d) (to (Errors errors.Clock) d)
+checkErrorsAndTime chip errors.Clear d a = decided (errorOf chip false (d .word)) (λ x. fails x d) (to (Errors errors.Clock) d)
 checkErrorsAndTime chip errors.Clock d a = cond (late a) (fails (failureOf Timeout) d) (to Poll d)
 
 abbrev pub blockingListen : Progress → ℕ → Move

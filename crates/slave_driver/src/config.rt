@@ -3,10 +3,15 @@ ghost use mathlib.Core.Path.{_≡_};
 ghost use Rattle.slave.specs.Init.{ownFault, secondFault, configFault};
 ghost use Rattle.slave_driver.specs.Validated.{validated};
 use access::Error;
-use errors::Checked;
 use slave::SecondAddress;
 use slave::SlaveAddress;
 use slave::SlaveConfig;
+
+// What `validate` answers.
+pub enum Validation {
+    Valid,
+    Refused(Error),
+}
 
 // Above 127, or 0 without general call; of ten bits, above 1023.
 fn own_fault(own: SlaveAddress, general: bool) -> bool
@@ -39,12 +44,12 @@ fn config_fault(config: SlaveConfig) -> bool
     own_fault(own, config.general_call) | second_fault(own, second)
 }
 
-pub fn validate(config: SlaveConfig) -> Checked
+pub fn validate(config: SlaveConfig) -> Validation
     ensures { λ r. ⌜ r ≡ validated config ⌝ }
 {
     if config_fault(config) {
-        Checked::Failed(Error::InvalidAddress)
+        Validation::Refused(Error::InvalidAddress)
     } else {
-        Checked::Fine
+        Validation::Valid
     }
 }

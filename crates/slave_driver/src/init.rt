@@ -3,10 +3,10 @@
 ghost use mathlib.Core.Path.{_≡_};
 ghost use Rattle.slave.specs.Init.{ownWord, secondWord, enableWord, to, saving, owedAt, owed, advanceAt, advance, handed, begin, step};
 use crate::config;
+use crate::config::Validation;
 use access::Error;
 use access::Need;
 use access::Next;
-use errors::Checked;
 use registers::Register;
 use registers::addresses;
 use registers::bits;
@@ -140,12 +140,12 @@ pub fn begin(config: SlaveConfig) -> InitBegun
     ensures { λ r. ⌜ r ≡ begin config ⌝ }
 {
     match config::validate(config) {
-        Checked::Fine => InitBegun::Accepted(handed(InitState {
+        Validation::Valid => InitBegun::Accepted(handed(InitState {
             config,
             stage: InitStage::DisableRead,
             saved: 0,
         })),
-        Checked::Failed(error) => InitBegun::Refused(error),
+        Validation::Refused(error) => InitBegun::Refused(error),
     }
 }
 

@@ -4,6 +4,7 @@ ghost use Rattle.slave.specs.declared.stage.ErrorStage.the-variants as errors;
 ghost use Rattle.slave.specs.Machine.{slaveHandleErrors, checkErrorsAndTime};
 use crate::progress;
 use access::Error;
+use access::ending;
 use errors::Checked;
 use registers::Chip;
 use registers::flags;
@@ -29,7 +30,7 @@ fn judged(chip: Chip, d: Progress) -> Move
 {
     match errors::error_of(d.word, chip, false) {
         Checked::Fine => progress::to(Stage::Errors(ErrorStage::Clock), d),
-        Checked::Failed(error) => progress::fails(error, d),
+        Checked::Failed(failure) => progress::fails(failure, d),
     }
 }
 
@@ -40,7 +41,7 @@ pub fn check_errors_and_time(chip: Chip, stage: ErrorStage, d: Progress, answer:
         ErrorStage::Clear => judged(chip, d),
         ErrorStage::Clock => {
             if access::next::late(answer) {
-                progress::fails(Error::Timeout, d)
+                progress::fails(ending::failure_of(Error::Timeout), d)
             } else {
                 progress::to(Stage::Poll, d)
             }

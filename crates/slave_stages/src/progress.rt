@@ -1,9 +1,8 @@
 // Progress, changed in one part.
 ghost use mathlib.Core.Path.{_≡_};
-ghost use Rattle.access.specs.Endings.{failureOf};
 ghost use Rattle.slave.specs.Machine.{to, saves, counted, endsWith, fresh, fails};
 use access::Ending;
-use access::Error;
+use access::Failure;
 use slave::Move;
 use slave::Progress;
 use slave::Stage;
@@ -59,11 +58,11 @@ pub fn fresh() -> Progress
 }
 
 // An error: the abort begins.
-pub fn fails(error: Error, d: Progress) -> Move
-    ensures { λ r. ⌜ r ≡ fails (failureOf error) d ⌝ }
+pub fn fails(failure: Failure, d: Progress) -> Move
+    ensures { λ r. ⌜ r ≡ fails failure d ⌝ }
 {
     to(
         Stage::Abort(AbortStage::DisableRead),
-        ends_with(access::ending::failed(error), d),
+        ends_with(Ending::Failed(failure), d),
     )
 }

@@ -6,6 +6,7 @@ ghost use Rattle.master.specs.Machine.{stopsHere, readAddressed, addressed, add
 use crate::finish;
 use crate::progress;
 use access::Error;
+use access::ending;
 use master::Move;
 use master::Progress;
 use master::Setting;
@@ -57,14 +58,14 @@ pub fn address_phase(g: Setting, run: Run, stage: AddressStage, d: Progress, ans
     match stage {
         AddressStage::Control => {
             if word::bit(answer, bits::START) {
-                progress::fails(Error::Arbitration, d)
+                progress::fails(ending::failure_of(Error::Arbitration), d)
             } else {
                 progress::to(Stage::Address(AddressStage::Master), d)
             }
         }
         AddressStage::Master => {
             if !word::bit(answer, bits::MSL) {
-                progress::fails(Error::Arbitration, d)
+                progress::fails(ending::failure_of(Error::Arbitration), d)
             } else {
                 progress::to(Stage::Address(AddressStage::Word), d)
             }

@@ -1,10 +1,9 @@
 // Progress, changed in one part.
 ghost use mathlib.Core.Path.{_≡_};
 ghost use Prim.Native.Nat.{pred};
-ghost use Rattle.access.specs.Endings.{failureOf};
 ghost use Rattle.master.specs.Machine.{to, saves, savesDivider, savesRise, endsWith, next16, counted, byteDone, begun, nextRun, fresh, fails};
 use access::Ending;
-use access::Error;
+use access::Failure;
 use master::Move;
 use master::Progress;
 use master::Stage;
@@ -162,11 +161,11 @@ pub fn fresh() -> Progress
 }
 
 // An error: the abort begins.
-pub fn fails(error: Error, d: Progress) -> Move
-    ensures { λ r. ⌜ r ≡ fails (failureOf error) d ⌝ }
+pub fn fails(failure: Failure, d: Progress) -> Move
+    ensures { λ r. ⌜ r ≡ fails failure d ⌝ }
 {
     to(
         Stage::Abort(AbortStage::FinishRead),
-        ends_with(access::ending::failed(error), d),
+        ends_with(Ending::Failed(failure), d),
     )
 }

@@ -3,6 +3,7 @@ ghost use mathlib.Core.Path.{_≡_};
 ghost use Rattle.master.specs.Machine.{fallen, waitStopFinished, launchStart};
 use crate::progress;
 use access::Error;
+use access::ending;
 use master::Move;
 use master::Progress;
 use master::Stage;
@@ -44,7 +45,7 @@ pub fn wait_stop_finished(stage: FallStage, fall: Fall, d: Progress, answer: u16
         }
         FallStage::Clock => {
             if access::next::late(answer) {
-                progress::fails(Error::Timeout, d)
+                progress::fails(ending::failure_of(Error::Timeout), d)
             } else {
                 progress::to(Stage::WaitStop(fall, FallStage::Control), d)
             }

@@ -4,6 +4,7 @@ ghost use Rattle.master.specs.Machine.{isSet, waited, tests, judged, checkAndCl
 use crate::finish;
 use crate::progress;
 use access::Error;
+use access::ending;
 use errors::Checked;
 use master::Move;
 use master::Progress;
@@ -81,7 +82,7 @@ fn judged(g: Setting, run: Run, flag: Flag, d: Progress, status: u16) -> Move
     let chip = g.chip;
     match errors::error_of(status, chip, true) {
         Checked::Fine => tests(g, run, flag, d, status),
-        Checked::Failed(error) => progress::fails(error, d),
+        Checked::Failed(failure) => progress::fails(failure, d),
     }
 }
 
@@ -107,7 +108,7 @@ pub fn waits(g: Setting, run: Run, stage: WaitStage, flag: Flag, d: Progress, an
         WaitStage::Clear => judged(g, run, flag, d, d.word),
         WaitStage::Clock => {
             if access::next::late(answer) {
-                progress::fails(Error::Timeout, d)
+                progress::fails(ending::failure_of(Error::Timeout), d)
             } else {
                 progress::to(Stage::Wait(flag, WaitStage::Status), d)
             }

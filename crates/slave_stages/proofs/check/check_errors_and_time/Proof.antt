@@ -14,6 +14,7 @@ check-errors-and-time-spec =
     (λ c κs. search needs)
     (λ c κs. search needs)
     (λ c κs. search needs)
+    (λ c κs. search needs)
     (λ c. rw (c .before .enum-told .given .1, c .judged .ensures))
-    (λ c. rw (c .before .before .before .enum-told2 .given .1, ← c .before .before .late .ensures, c .before .if1 .taken, c .fails .ensures))
+    (λ c. rw (c .before .before .before .before .enum-told2 .given .1, ← c .before .before .before .late .ensures, c .before .before .if1 .taken, c .fails .ensures, c .before .failure-of .ensures))
     (λ c. rw (c .before .before .before .enum-told2 .given .1, ← c .before .before .late .ensures, c .before .if1 .left, c .to .ensures)))
