@@ -1,10 +1,9 @@
-# `make test` is the gate: the C programs on the library, every proof, every edit that must be refused, every Rattle program. Its last line
-# is rt's verdict.
+# `make test` is the gate: every proof, every edit that must be refused, every Rattle program, then the C programs on the library. Its last
+# line is rt's verdict.
 .PHONY: test
 
-test: ctest demo-check bench-check
-	rt fmt --check
-	rt ci
+test:
+	@MAKE="$(MAKE)" tests/gate
 
 include c.mk
 include bench.mk
