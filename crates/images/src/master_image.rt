@@ -78,7 +78,7 @@ fn kind_of(entry: u8, option: u8) -> Kind
 }
 
 // Whether these are the numbers of a kind: only a frame has an option.
-fn is_kind(entry: u8, option: u8) -> bool
+pub fn is_kind(entry: u8, option: u8) -> bool
     ensures { λ r. ⌜ r ≡ isKind entry option ⌝ }
 {
     ((1 < entry) & (entry < 6)) & ((option < 6) & ((3 < entry) | (option == 0)))

@@ -52,7 +52,7 @@ module _ (x : Kind) (address : ℕ) (list : List ℕ) (written room k : ℕ) whe
   found-cause f q = subst Says (sym q) says
 
 -- without another cause the list has its form
-formed : (x : Kind) (address : ℕ) (list : List ℕ) (written room : ℕ) → causeAt x address list written room ≡ none → misshapen x list ≡ false
+pub formed : (x : Kind) (address : ℕ) (list : List ℕ) (written room : ℕ) → causeAt x address list written room ≡ none → misshapen x list ≡ false
 formed kind.Transaction address list written room q =
     let a = passed-cause (ltb 127 address) InvalidAddress _ q in
     let b = passed-cause (ltb 768 (length list)) TooManyOperations _ (a .1) in

@@ -1,0 +1,4 @@
+pub mod HeldLaws
+pub mod CallLaws
+pub mod RunLaws
+pub mod ListLaws

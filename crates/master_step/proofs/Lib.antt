@@ -1,0 +1,11 @@
+pub mod Laws
+pub mod GroupLaws
+pub mod TakenLaws
+pub mod BeginLaws
+pub mod AbortLaws
+pub mod KeepLaws
+pub mod SeenLaws
+pub mod StepLaws
+pub mod ReadyLaws
+pub mod StoreLaws
+pub mod FillLaws

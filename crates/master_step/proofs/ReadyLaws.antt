@@ -1,0 +1,153 @@
+-- What the tests before a step find: all that the step asks for, and no block fails them that holds a stage that fits.
+-- Assumes nothing.
+use Prim.Native.Nat.{ℕ}
+use native.Mathlib.Omega.{arith}
+use mathlib.Core.Path.{_≡_, refl, sym, ap, _∙_}
+use mathlib.Core.Bool.{Bool, true, false, Bool·beq, _&&_, _||_, true≢false}
+use mathlib.Core.List.{List}
+use lib.Dec.{eqb, leb, ltb}
+use borrow.Author.Tests.{eqb-true, ne-eqb, le-ltb}
+use Rattle.access.specs.declared.ending.Error.{Error}
+use Rattle.access.specs.declared.ending.Error.the-variants as error
+use Rattle.access.specs.declared.ending.Ending.{Ending}
+use Rattle.access.specs.declared.ending.Ending.the-variants.{Done, Failed}
+use Rattle.access.specs.Endings.{errorNumber, done, returned, isDone, hasFailed}
+use Rattle.access.proofs.Choice.{both-true, first-true, second-true, either-true}
+use Rattle.images.specs.Numbers.{flagNumber, endingError, endingValue}
+use Rattle.operations.specs.declared.search.Run.{Run}
+use Rattle.operations.specs.Operations.{isRead}
+use Rattle.master.specs.declared.call.Call.{Call}
+use Rattle.master.specs.declared.stage.Stage.{Stage}
+use Rattle.master.specs.declared.stage.Stage.the-variants as stage
+use Rattle.master.specs.declared.state.Progress.{Progress}
+use Rattle.master.specs.Fits.{counts, runs, fitsAt, fitsFall, fitsWait, fitsRead, fitsStop, starting, sending, receiving, untouched, fitsAbort}
+use Rattle.master.specs.Calls.{settingOf}
+use Rattle.stage_numbers.specs.MasterStage.{stageGroup, stageWhat, stagePart, stageOf, isStage}
+use Rattle.master_step.specs.declared.here.Here.{Here}
+use Rattle.master_step.specs.Going.{hereIn}
+use Rattle.master_step.specs.Held.{blockAt, Ready, readyAt}
+
+-- ---- the tests
+
+pub same-flag : (a b : Bool) → eqb (flagNumber a) (flagNumber b) ≡ Bool·beq b a
+same-flag true true = refl
+same-flag true false = refl
+same-flag false true = refl
+same-flag false false = refl
+
+no-error : (e : Error) → eqb (errorNumber e) 0 ≡ false
+no-error error.Bus = refl
+no-error error.Arbitration = refl
+no-error error.Nack = refl
+no-error error.Timeout = refl
+no-error error.Crc = refl
+no-error error.Overrun = refl
+no-error error.BufferTooLong = refl
+no-error error.InvalidAddress = refl
+no-error error.InvalidFrequency = refl
+no-error error.DividerTooLarge = refl
+no-error error.InputTooSlow = refl
+no-error error.TooManyOperations = refl
+no-error error.LengthMismatch = refl
+no-error error.InvalidState = refl
+no-error error.InvalidArgument = refl
+
+an-error : (e : Error) → ltb 0 (errorNumber e) ≡ true
+an-error error.Bus = refl
+an-error error.Arbitration = refl
+an-error error.Nack = refl
+an-error error.Timeout = refl
+an-error error.Crc = refl
+an-error error.Overrun = refl
+an-error error.BufferTooLong = refl
+an-error error.InvalidAddress = refl
+an-error error.InvalidFrequency = refl
+an-error error.DividerTooLarge = refl
+an-error error.InputTooSlow = refl
+an-error error.TooManyOperations = refl
+an-error error.LengthMismatch = refl
+an-error error.InvalidState = refl
+an-error error.InvalidArgument = refl
+
+pub done-is : (e : Ending) → eqb (endingError e) 0 && eqb (endingValue e) 0 ≡ isDone e
+done-is (Done o) = refl
+done-is (Failed f) = ap (λ (b : Bool). b && true) (no-error (f .error))
+
+pub failed-is : (e : Ending) → ltb 0 (endingError e) && leb (endingError e) 6 ≡ hasFailed e
+failed-is (Done o) = refl
+failed-is (Failed f) = ap (λ (b : Bool). b && leb (errorNumber (f .error)) 6) (an-error (f .error))
+
+-- ---- what they give
+
+pub ended-done : (e : Ending) → isDone e ≡ true → e ≡ done
+ended-done (Done o) h = ap returned (eqb-true (o .value) 0 h)
+ended-done (Failed f) h = absurd (true≢false (sym h))
+
+only-second : (a b : Bool) → a ≡ false → a || b ≡ true → b ≡ true
+only-second true b e h = absurd (true≢false e)
+only-second false b e h = h
+
+only-first : (a b c : Bool) → b ≡ false → a || (b && c) ≡ true → a ≡ true
+only-first true b c e h = refl
+only-first false true c e h = absurd (true≢false e)
+only-first false false c e h = h
+
+no-first : (a b c : Bool) → a ≡ false → (a && b) || c ≡ true → c ≡ true
+no-first true b c e h = absurd (true≢false e)
+no-first false b c e h = h
+
+module _ (c : Call) (r : Run) (d : Progress) {here : Here} {b : List ℕ} (group w p : ℕ) where
+  pub ready : b ≡ blockAt c d group w p → here ≡ hereIn c r (isRead (r .direction)) → readyAt group r d ≡ true → Ready c r d here b group w p
+  ready held going e =
+      let counted : eqb group 0 || counts r d ≡ true = first-true (eqb group 0 || counts r d) ((ltb group 9 && isDone (d .ending)) || (eqb group 9 && hasFailed (d .ending))) e in
+      let ending : (ltb group 9 && isDone (d .ending)) || (eqb group 9 && hasFailed (d .ending)) ≡ true = second-true (eqb group 0 || counts r d) ((ltb group 9 && isDone (d .ending)) || (eqb group 9 && hasFailed (d .ending))) e in
+      record {
+        held = held;
+        going = going;
+        counted = λ h k. only-second (eqb group 0) (counts r d) (ne-eqb group 0 (λ z. omega arith)) counted;
+        unhurt = λ h. ended-done (d .ending) (second-true (ltb group 9) (isDone (d .ending)) (only-first (ltb group 9 && isDone (d .ending)) (eqb group 9) (hasFailed (d .ending)) (ne-eqb group 9 (λ z. omega arith)) ending));
+        hurt = λ h. second-true (eqb group 9) (hasFailed (d .ending)) (no-first (ltb group 9) (isDone (d .ending)) (eqb group 9 && hasFailed (d .ending)) (le-ltb group 9 (omega arith)) ending);
+      }
+
+-- ---- and that they refuse nothing else
+
+pub not-true : (b : Bool) → (b ≡ true → ⊥) → b ≡ false
+not-true true h = absurd (h refl)
+not-true false h = refl
+
+module _ (c : Call) (r : Run) (d : Progress) where
+  runs-ready : (b : Bool) → runs r b d ≡ true → counts r d && (isDone (d .ending) || false) ≡ true
+  runs-ready b e =
+      both-true (first-true (counts r d) (isDone (d .ending) && b) e) (either-true false (first-true (isDone (d .ending)) b (second-true (counts r d) (isDone (d .ending) && b) e)))
+
+  fits-ready : (st : Stage) → ltb (stageGroup st) 10 ≡ true → fitsAt (settingOf c) r st d ≡ true → readyAt (stageGroup st) r d ≡ true
+  fits-ready stage.Begin h e = either-true false (first-true (isDone (d .ending)) _ (second-true (untouched d) _ e))
+  fits-ready (stage.WaitStop f st) h e = runs-ready (fitsFall (settingOf c) r f d) e
+  fits-ready (stage.LaunchStart st) h e = runs-ready (starting (settingOf c) r d) e
+  fits-ready (stage.Wait f st) h e = runs-ready (fitsWait (settingOf c) r f d) e
+  fits-ready (stage.Address st) h e = runs-ready (starting (settingOf c) r d) e
+  fits-ready stage.SendByte h e = runs-ready (sending d) e
+  fits-ready (stage.RecvByte st) h e = runs-ready (receiving (settingOf c) r d) e
+  fits-ready (stage.ReadIter st) h e = runs-ready (fitsRead (settingOf c) r st d) e
+  fits-ready (stage.GenerateStop k st) h e = runs-ready (fitsStop (settingOf c) r k d) e
+  fits-ready (stage.Abort st) h e =
+      both-true (first-true (counts r d) (hasFailed (d .ending) && fitsAbort (c .chip) st) e) (first-true (hasFailed (d .ending)) (fitsAbort (c .chip) st) (second-true (counts r d) (hasFailed (d .ending) && fitsAbort (c .chip) st) e))
+  fits-ready stage.Ended h e = absurd (true≢false (sym h))
+
+  module _ (n w p : ℕ) where
+    abbrev fitting : Bool
+    fitting = fitsAt (settingOf c) r (stageOf n w p) d
+
+    group-told : isStage n w p ≡ true → stageGroup (stageOf n w p) ≡ n
+    unfolding isStage
+    group-told e = eqb-true (stageGroup (stageOf n w p)) n (first-true (eqb (stageGroup (stageOf n w p)) n) (eqb (stageWhat (stageOf n w p)) w && eqb (stagePart (stageOf n w p)) p) e)
+
+    pub unready : readyAt n r d ≡ false → ltb n 10 && (isStage n w p && fitting) ≡ false
+    unready test =
+        not-true (ltb n 10 && (isStage n w p && fitting))
+        (λ e.
+        let open-group : ltb n 10 ≡ true = first-true (ltb n 10) (isStage n w p && fitting) e in
+        let both : isStage n w p && fitting ≡ true = second-true (ltb n 10) (isStage n w p && fitting) e in
+        let group : stageGroup (stageOf n w p) ≡ n = group-told (first-true (isStage n w p) fitting both) in
+        let yes : readyAt (stageGroup (stageOf n w p)) r d ≡ true = fits-ready (stageOf n w p) (ap (λ (x : ℕ). ltb x 10) group ∙ open-group) (second-true (isStage n w p) fitting both) in
+        true≢false (sym yes ∙ ap (λ (x : ℕ). readyAt x r d) group ∙ test))

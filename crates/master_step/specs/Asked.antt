@@ -1,0 +1,53 @@
+-- What is asked for next, as a number: C's, but for a byte to send, to keep or to drop, which have kinds of their own.
+use mathlib.Core.Path.{_≡_}
+use mathlib.Core.Bool.{Bool, true, false}
+use mathlib.Core.List.{List}
+use Prim.Native.Nat.{ℕ, _+_, _*_, _<_}
+use Rattle.registers.specs.Numbers.{registerNumber}
+use Rattle.access.specs.declared.need.Need.{Need}
+use Rattle.access.specs.declared.need.Need.the-variants.{Read, Write, Clock, Send, Keep, Drop, End}
+use Rattle.access.specs.Endings.{endingNumber}
+use Rattle.access.specs.Numbers.{nextNumber, HoldsWords, EndHoldsWords}
+use Rattle.access.specs.Machine.{filled}
+
+abbrev pub needNumber : Need → ℕ
+needNumber (Read r) = 1 + registerNumber r * 256
+needNumber (Write r v) = 2 + registerNumber r * 256 + v * 65536
+needNumber Clock = 3
+needNumber (Send p) = 4 + p * 65536
+needNumber (Keep p) = 5 + p * 65536
+needNumber Drop = 6
+needNumber (End e) = endingNumber e
+
+-- the values are 16-bit words, as they are in the code
+abbrev pub NeedHoldsWords : Need → Type 0
+NeedHoldsWords (Read r) = Unit {0}
+NeedHoldsWords (Write r v) = v < 65536
+NeedHoldsWords Clock = Unit {0}
+NeedHoldsWords (Send p) = Unit {0}
+NeedHoldsWords (Keep p) = Unit {0}
+NeedHoldsWords Drop = Unit {0}
+NeedHoldsWords (End e) = EndHoldsWords e
+
+-- the number n asks for x
+pub record Asks (n : ℕ) (x : Need) : Type 0 where
+  pub number : n ≡ needNumber x
+  pub words : NeedHoldsWords x
+
+-- C's number n for what is asked for, with these bytes lent to write
+pub record Filled (written : List ℕ) (n : ℕ) (x : Need) : Type 0 where
+  pub number : n ≡ nextNumber (filled written x)
+  pub words : HoldsWords (filled written x)
+
+abbrev pub Fills : ℕ → List ℕ → ℕ → Type 0
+Fills asked written n = (x : Need) → Asks asked x → Filled written n x
+
+-- a byte to keep
+abbrev pub isKeep : Need → Bool
+isKeep (Read r) = false
+isKeep (Write r v) = false
+isKeep Clock = false
+isKeep (Send p) = false
+isKeep (Keep p) = true
+isKeep Drop = false
+isKeep (End e) = false

@@ -1,0 +1,53 @@
+// Before a run's first access: CTLR1 is read, for POS in a read, and in a write for STOP.
+ghost use mathlib.Core.Path.{_≡_};
+ghost use lib.ListN.{length};
+ghost use Rattle.block.specs.Bytes32.{blockSize};
+ghost use Rattle.master_step.specs.Going.{fitsBeginIn};
+ghost use Rattle.master_step.specs.Held.{Beginning};
+use crate::ask;
+use crate::here::Here;
+use crate::put;
+use crate::stage;
+use crate::start;
+use registers::Register;
+use registers::bits;
+use registers::word;
+
+// The block has nothing of the run yet, and the run has a first access: a read changes POS, and a START waits for STOP to fall.
+fn fits_begin(block: &[u8], here: Here, left: u16, what: u8, part: u8) -> bool
+    requires { ⌜ length (now block) ≡ blockSize ⌝ }
+    ensures { λ r. ⌜ r ≡ fitsBeginIn here left what part (now (block .entry)) ⌝ }
+{
+    (what == 0)
+        & ((part == 0)
+            & ((block[put::FLAGS] == 0)
+                & ((left == 0)
+                    & ((put::word_at(block, put::PLACE) == 0) & (here.reading | here.start)))))
+}
+
+// The run begins, by the first answer: ctlr1.modify(set_pos(..)) in a read, and in a write the first word of wait_stop_finished.
+pub fn begins(block: &mut [u8], here: Here, left: u16, what: u8, part: u8, answer: u16) -> u64
+    requires { ⌜ length (now block) ≡ blockSize ⌝ }
+    ensures { λ r. ⌜ Beginning here left what part answer (now (block .entry)) (now (block .exit)) r ⌝ }
+{
+    if !fits_begin(block, here, left, what, part) {
+        return ask::refused();
+    }
+    put::begun(block, here);
+    if here.reading {
+        let two = (here.length == 2) & here.nack;
+        put::saves(block, answer);
+        put::to(block, stage::READ_ITER, 0, stage::POS_WRITE);
+        return ask::write(Register::Ctlr1, word::put_bit(answer, bits::POS, two));
+    }
+    if word::bit(answer, bits::STOP) {
+        put::to(
+            block,
+            stage::WAIT_STOP,
+            stage::FALL_START,
+            stage::FALL_CLOCK,
+        );
+        return ask::clock();
+    }
+    start::fallen(block, here, here.length, stage::FALL_START)
+}

@@ -1,0 +1,31 @@
+// Where a byte is to be kept.
+ghost use mathlib.Core.Path.{_≡_};
+ghost use Rattle.master.specs.declared.call.Setting.{Setting};
+ghost use Rattle.master.specs.declared.state.Progress.{Progress};
+ghost use Rattle.master.specs.Machine.{owedAt};
+ghost use Rattle.stage_numbers.specs.MasterStage.{stageOf};
+ghost use Rattle.master_step.specs.Asked.{isKeep};
+ghost use Prim.Native.Nat.{ℕ};
+use crate::stage;
+
+fn keeps_read(part: u8) -> bool
+    ensures { λ r. ⌜ ((g : Setting) (what : ℕ) (d : Progress) → r ≡ isKeep (owedAt g (stageOf 7 what part) d)) ⌝ }
+{
+    match part {
+        stage::THIRD => true,
+        stage::SECOND_LAST => true,
+        stage::LAST => true,
+        _ => false,
+    }
+}
+
+// Whether the access that is owed at these numbers is a byte to keep. Its place is the block's.
+pub fn is_kept(group: u8, part: u8) -> bool
+    ensures { λ r. ⌜ ((g : Setting) (what : ℕ) (d : Progress) → r ≡ isKeep (owedAt g (stageOf group what part) d)) ⌝ }
+{
+    match group {
+        stage::RECV_BYTE => part != stage::RECV_STATUS,
+        stage::READ_ITER => keeps_read(part),
+        _ => false,
+    }
+}

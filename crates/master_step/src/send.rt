@@ -1,0 +1,32 @@
+// datar.write(byte)
+ghost use mathlib.Core.Path.{_≡_};
+ghost use mathlib.Core.Bool.{_&&_};
+ghost use lib.Dec.{eqb};
+ghost use lib.ListN.{length};
+ghost use Rattle.block.specs.Bytes32.{blockSize};
+ghost use Rattle.master_step.specs.Going.{sendingIn};
+ghost use Rattle.master_step.specs.Held.{Group};
+use crate::ask;
+use crate::here;
+use crate::here::Here;
+use crate::put;
+use crate::stage;
+use registers::Register;
+
+fn fits_send(here: Here, left: u16, what: u8, part: u8) -> bool
+    ensures { λ r. ⌜ r ≡ eqb what 0 && (eqb part 0 && sendingIn here left) ⌝ }
+{
+    (what == 0) & ((part == 0) & here::sending(here, left))
+}
+
+// The byte is out: BTF is waited for. Nothing is read, so there is no answer to look at.
+pub fn send_byte(block: &mut [u8], here: Here, left: u16, what: u8, part: u8, answer: u16) -> u64
+    requires { ⌜ length (now block) ≡ blockSize ⌝ }
+    ensures { λ r. ⌜ Group 5 here left what part answer (now (block .entry)) (now (block .exit)) r ⌝ }
+{
+    if !fits_send(here, left, what, part) {
+        return ask::refused();
+    }
+    put::to(block, stage::WAIT, stage::SENT, stage::WAIT_STATUS);
+    ask::read(Register::Star1)
+}

@@ -1,0 +1,133 @@
+// Up to a START, and at the end of a frame: `wait_stop_finished` and `launch_start`.
+ghost use mathlib.Core.Path.{_≡_};
+ghost use mathlib.Core.Bool.{_&&_};
+ghost use lib.Dec.{ltb};
+ghost use lib.ListN.{length};
+ghost use Rattle.block.specs.Bytes32.{blockSize};
+ghost use Rattle.stage_numbers.specs.MasterStage.{fallOf, launchStageOf};
+ghost use Rattle.master.specs.declared.call.Setting.{Setting};
+ghost use Rattle.master.specs.declared.state.Progress.{Progress};
+ghost use Rattle.operations.specs.declared.search.Run.{Run};
+ghost use Rattle.master.specs.Machine.{fallen, launchStart};
+ghost use Rattle.master_step.specs.Going.{fitsFallIn};
+ghost use Rattle.master_step.specs.Held.{Goes, Within, Group};
+use crate::ask;
+use crate::go;
+use crate::here;
+use crate::here::Here;
+use crate::put;
+use crate::stage;
+use access::Error;
+use access::ending;
+use access::next;
+use registers::Register;
+use registers::bits;
+use registers::word;
+
+fn fits_fall(here: Here, left: u16, what: u8) -> bool
+    ensures { λ r. ⌜ r ≡ ltb what 2 && fitsFallIn here left (fallOf what) ⌝ }
+{
+    match what {
+        stage::FALL_START => here::starting(here, left),
+        stage::FALL_END => here::closing(here, left),
+        _ => false,
+    }
+}
+
+// STOP has fallen.
+pub fn fallen(block: &mut [u8], here: Here, left: u16, what: u8) -> u64
+    requires { ⌜ length (now block) ≡ blockSize ⌝ }
+    ensures { λ r. ⌜ Goes here left (now (block .entry)) (now (block .exit)) r (λ (_ : Setting) (_ : Run). fallen (fallOf what)) ⌝ }
+{
+    if what == stage::FALL_START {
+        put::to(block, stage::LAUNCH_START, 0, stage::LAUNCH_CONTROL);
+        return ask::read(Register::Ctlr1);
+    }
+    if here.reading {
+        put::to(block, stage::READ_ITER, 0, stage::POS_OFF_READ);
+        return ask::read(Register::Ctlr1);
+    }
+    put::to(block, stage::ENDED, 0, 0);
+    ask::done()
+}
+
+// while ctlr1.read().stop() { timeout.check()? }
+pub fn wait_stop_finished(
+    block: &mut [u8],
+    here: Here,
+    left: u16,
+    what: u8,
+    part: u8,
+    answer: u16,
+) -> u64
+    requires { ⌜ length (now block) ≡ blockSize ⌝ }
+    ensures { λ r. ⌜ Group 1 here left what part answer (now (block .entry)) (now (block .exit)) r ⌝ }
+{
+    if !fits_fall(here, left, what) {
+        return ask::refused();
+    }
+    match part {
+        stage::FALL_CONTROL => {
+            if word::bit(answer, bits::STOP) {
+                put::part(block, stage::FALL_CLOCK);
+                return ask::clock();
+            }
+            fallen(block, here, left, what)
+        }
+        stage::FALL_CLOCK => {
+            if next::late(answer) {
+                return go::fails(block, ending::failure_of(Error::Timeout));
+            }
+            put::part(block, stage::FALL_CONTROL);
+            ask::read(Register::Ctlr1)
+        }
+        _ => ask::refused(),
+    }
+}
+
+// if ctlr1.read().start() || star1.read().sb() { return }, and else ctlr1.modify(start, and ack for a read)
+fn launch_part(block: &mut [u8], here: Here, left: u16, part: u8, answer: u16) -> u64
+    requires { ⌜ length (now block) ≡ blockSize ⌝ }
+    ensures { λ r. ⌜ Within 2 0 here left (now (block .entry)) (now (block .exit)) r (λ (_ : Setting) (_ : Run) (d : Progress). launchStart (launchStageOf part) d answer) ⌝ }
+{
+    match part {
+        stage::LAUNCH_CONTROL => {
+            if word::bit(answer, bits::START) {
+                put::to(block, stage::WAIT, stage::SB, stage::WAIT_STATUS);
+                return ask::read(Register::Star1);
+            }
+            put::part(block, stage::LAUNCH_STATUS);
+            ask::read(Register::Star1)
+        }
+        stage::LAUNCH_STATUS => {
+            if word::bit(answer, bits::SB) {
+                put::to(block, stage::WAIT, stage::SB, stage::WAIT_STATUS);
+                return ask::read(Register::Star1);
+            }
+            put::part(block, stage::LAUNCH_READ);
+            ask::read(Register::Ctlr1)
+        }
+        stage::LAUNCH_READ => {
+            let started = word::set_bit(answer, bits::START);
+            if here.reading {
+                let acked = word::set_bit(started, bits::ACK);
+                return go::modifies(block, stage::LAUNCH_WRITE, answer, Register::Ctlr1, acked);
+            }
+            go::modifies(block, stage::LAUNCH_WRITE, answer, Register::Ctlr1, started)
+        }
+        _ => {
+            put::to(block, stage::WAIT, stage::SB, stage::WAIT_STATUS);
+            ask::read(Register::Star1)
+        }
+    }
+}
+
+pub fn launch_start(block: &mut [u8], here: Here, left: u16, what: u8, part: u8, answer: u16) -> u64
+    requires { ⌜ length (now block) ≡ blockSize ⌝ }
+    ensures { λ r. ⌜ Group 2 here left what part answer (now (block .entry)) (now (block .exit)) r ⌝ }
+{
+    if !here::fits_starting(here, left, what, part) {
+        return ask::refused();
+    }
+    launch_part(block, here, left, part, answer)
+}

@@ -1,0 +1,79 @@
+// The step of a master call, by the group of its stage.
+ghost use mathlib.Core.Path.{_≡_};
+ghost use lib.ListN.{length};
+ghost use Rattle.block.specs.Bytes32.{blockSize};
+ghost use Rattle.master_step.specs.Held.{Step, StepIn, StoresIn};
+use crate::abort;
+use crate::address;
+use crate::ask;
+use crate::begin;
+use crate::here::Here;
+use crate::keep;
+use crate::put;
+use crate::read;
+use crate::ready;
+use crate::send;
+use crate::stage;
+use crate::start;
+use crate::stop;
+use crate::wait;
+use access::lent;
+
+// A call that has ended takes no step, and no stage is of another group.
+pub fn step(
+    block: &mut [u8],
+    here: Here,
+    left: u16,
+    group: u8,
+    what: u8,
+    part: u8,
+    answer: u16,
+) -> u64
+    requires { ⌜ length (now block) ≡ blockSize ⌝ }
+    ensures { λ r. ⌜ Step group here left what part answer (now (block .entry)) (now (block .exit)) r ⌝ }
+{
+    match group {
+        stage::BEGIN => begin::begins(block, here, left, what, part, answer),
+        stage::WAIT_STOP => start::wait_stop_finished(block, here, left, what, part, answer),
+        stage::LAUNCH_START => start::launch_start(block, here, left, what, part, answer),
+        stage::WAIT => wait::wait_flag(block, here, left, what, part, answer),
+        stage::ADDRESS => address::address_phase(block, here, left, what, part, answer),
+        stage::SEND_BYTE => send::send_byte(block, here, left, what, part, answer),
+        stage::RECV_BYTE => read::recv_byte(block, here, left, what, part, answer),
+        stage::READ_ITER => read::blocking_read_iter(block, here, left, what, part, answer),
+        stage::GENERATE_STOP => stop::generate_stop(block, here, left, what, part, answer),
+        stage::ABORT => abort::abort_transfer(block, what, part, answer),
+        _ => ask::refused(),
+    }
+}
+
+// The step of a call in the run that `here` tells of, by the numbers of its block.
+pub fn step_in(block: &mut [u8], here: Here, answer: u16) -> u64
+    requires { ⌜ length (now block) ≡ blockSize ⌝ }
+    ensures { λ r. ⌜ StepIn here answer (now (block .entry)) (now (block .exit)) r ⌝ }
+{
+    let left = put::word_at(block, put::LEFT);
+    let group = block[put::GROUP];
+    let what = block[put::WHAT];
+    let part = block[put::PART];
+    if !ready::is_ready(block, here, left, group) {
+        return ask::refused();
+    }
+    step(block, here, left, group, what, part, answer)
+}
+
+// The same, and the byte that was to be kept is stored at the place that the block had.
+pub fn step_keeping(block: &mut [u8], here: Here, read: &mut [u8], answer: u16) -> u64
+    requires { ⌜ length (now block) ≡ blockSize ⌝ }
+    ensures { λ r. ⌜ StepIn here answer (now (block .entry)) (now (block .exit)) r ⌝ }
+    ensures { λ _. ⌜ StoresIn here answer (now (block .entry)) (now (read .entry)) (now (read .exit)) ⌝ }
+{
+    let kept = keep::is_kept(block[put::GROUP], block[put::PART]);
+    let place = put::word_at(block, put::PLACE);
+    let asked = step_in(block, here, answer);
+    if kept & (asked != ask::refused()) {
+        lent::put_at(read, place as u32, (answer % 256) as u8);
+        return asked;
+    }
+    asked
+}
