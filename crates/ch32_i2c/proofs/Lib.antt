@@ -1,6 +1,7 @@
 pub mod LeavesLaws
 pub mod InitLeaves
 pub mod MasterLeaves
+pub mod CallLeaves
 pub mod InitSlaveLeaves
 pub mod SlaveLeaves
 pub mod Carried

@@ -1,26 +1,37 @@
 // Transactions, write-reads and frames.
 ghost use mathlib.Core.Path.{_≡_};
-ghost use lib.ListN.{length};
+ghost use mathlib.Core.Bool.{cond, not, _&&_};
+ghost use Prim.Native.Nat.{ℕ, _%_};
+ghost use lib.Dec.{eqb};
+ghost use lib.ListN.{length, set};
+ghost use Rattle.access.specs.declared.ending.Error.the-variants.{InvalidState};
+ghost use Rattle.access.specs.declared.need.Need.the-variants as need;
+ghost use Rattle.access.specs.Endings.{failed};
+ghost use Rattle.master_step.specs.Asked.{Asks};
 ghost use Rattle.access.specs.Numbers.{nextNumber, HoldsWords};
 ghost use Rattle.block.specs.Bytes32.{bytesOf, blockSize};
 ghost use Rattle.images.specs.MasterImage.{masterFields};
 ghost use Rattle.master.specs.Calls.{lentWith};
 ghost use Rattle.master.specs.Steps.{stateAt, handed};
-ghost use Rattle.driver.specs.Went.{steppedBy};
 ghost use Rattle.ch32_i2c.specs.Left.{Leaves, LeavesBlock};
-ghost use Rattle.ch32_i2c.specs.Transfer.{callOf, masterBegin, masterHeld, masterStep, transactionBegin, transactionStep, writeReadBegin, writeReadStep, writeBegin, writeStep, readBegin, readStep};
+ghost use Rattle.ch32_i2c.specs.Transfer.{callOf, masterBegin, transactionBegin, transactionStep, writeReadBegin, writeReadStep, writeBegin, writeStep, readBegin, readStep};
 use crate::left;
 use access::Error;
+use access::lent;
 use block::bytes32;
 use driver::call;
 use driver::call::Went;
 use images::master_image;
-use images::master_image::MasterFound;
 use images::numbers;
 use master::Call;
 use master::Kind;
 use master::Move;
-use master::State;
+use master_call::frame;
+use master_call::transaction;
+use master_call::write_read;
+use master_step::ask;
+use master_step::keep;
+use master_step::put;
 
 // The call that C's numbers mean.
 fn call_of(chip: u8, address: u8, kind: Kind) -> Call
@@ -70,53 +81,12 @@ fn begin(
     }
 }
 
-// The state that a block holds of an entry's call.
-fn held(entry: u8, block: &[u8]) -> MasterFound
-    ensures { λ r. ⌜ r ≡ masterHeld entry (now (block .entry)) ⌝ }
+// The answer to the access that was handed out last, if that was a byte to keep and the step took it. Nothing else stores payload.
+fn keep(kept: bool, place: u16, asked: u64, read: &mut [u8], answer: u16)
+    ensures { λ _. ⌜ ((n : ℕ) → Asks n (need.End (failed InvalidState)) → now (read .exit) ≡ cond (kept && not (eqb asked n)) (set (now (read .entry)) place (answer % 256)) (now (read .entry))) ⌝ }
 {
-    if block.len() != bytes32::BLOCK_SIZE {
-        return MasterFound::Nothing;
-    }
-    let fields = bytes32::fields(block);
-    if fields.entry != entry {
-        return MasterFound::Nothing;
-    }
-    master_image::master_in(fields)
-}
-
-// Leaves in the block where a step led. A refused step leaves the state as it was.
-fn leave_step(block: &mut [u8], state: State, written: &[u8], went: Went) -> u64
-    requires { ⌜ length (now block) ≡ blockSize ⌝ }
-    ensures { λ r. ⌜ r ≡ nextNumber (steppedBy state (now (written .entry)) went .next) ⌝ }
-    ensures { λ _. ⌜ HoldsWords (steppedBy state (now (written .entry)) went .next) ⌝ }
-    ensures { λ _. ⌜ now (block .exit) ≡ bytesOf (masterFields (steppedBy state (now (written .entry)) went .state)) ⌝ }
-{
-    let call = state.call;
-    match went {
-        Went::To(to) => leave(block, call, written, to),
-        Went::Refused(error) => {
-            bytes32::put(block, master_image::master_fields(state));
-            left::refusal(error)
-        }
-    }
-}
-
-fn step(
-    entry: u8,
-    block: &mut [u8],
-    list: &[u8],
-    written: &[u8],
-    read: &mut [u8],
-    answer: u16,
-) -> u64
-    ensures { λ r. ⌜ Leaves (masterStep entry (now (block .entry)) (now (list .entry)) (now (written .entry)) (now (read .entry)) answer) r (now (block .exit)) (now (read .exit)) ⌝ }
-{
-    match held(entry, block) {
-        MasterFound::At(state) => {
-            let went = call::next_move(state, list, written.len(), read, answer);
-            leave_step(block, state, written, went)
-        }
-        MasterFound::Nothing => left::refusal(Error::InvalidState),
+    if kept & (asked != ask::refused()) {
+        lent::put_at(read, place as u32, (answer % 256) as u8);
     }
 }
 
@@ -151,7 +121,14 @@ pub extern "C" fn ch32_i2c_transaction_step(
 ) -> u64
     ensures { λ r. ⌜ Leaves (transactionStep (now (block .entry)) (now (list .entry)) (now (written .entry)) (now (read .entry)) answer) r (now (block .exit)) (now (read .exit)) ⌝ }
 {
-    step(numbers::TRANSACTION, block, list, written, read, answer)
+    if block.len() != bytes32::BLOCK_SIZE {
+        return left::refusal(Error::InvalidState);
+    }
+    let kept = keep::is_kept(block[put::GROUP], block[put::PART]);
+    let place = put::word_at(block, put::PLACE);
+    let asked = transaction::transaction_step(block, list, written.len(), read.len(), answer);
+    keep(kept, place, asked, read, answer);
+    ask::fill(asked, written)
 }
 
 #[no_mangle]
@@ -184,8 +161,14 @@ pub extern "C" fn ch32_i2c_write_read_step(
 ) -> u64
     ensures { λ r. ⌜ Leaves (writeReadStep (now (block .entry)) (now (written .entry)) (now (read .entry)) answer) r (now (block .exit)) (now (read .exit)) ⌝ }
 {
-    let none = [0u8; 0];
-    step(numbers::WRITE_READ, block, &none, written, read, answer)
+    if block.len() != bytes32::BLOCK_SIZE {
+        return left::refusal(Error::InvalidState);
+    }
+    let kept = keep::is_kept(block[put::GROUP], block[put::PART]);
+    let place = put::word_at(block, put::PLACE);
+    let asked = write_read::write_read_step(block, written.len(), read.len(), answer);
+    keep(kept, place, asked, read, answer);
+    ask::fill(asked, written)
 }
 
 #[no_mangle]
@@ -218,9 +201,11 @@ pub extern "C" fn ch32_i2c_write_begin(
 pub extern "C" fn ch32_i2c_write_step(block: &mut [u8], written: &[u8], answer: u16) -> u64
     ensures { λ r. ⌜ LeavesBlock (writeStep (now (block .entry)) (now (written .entry)) answer) r (now (block .exit)) ⌝ }
 {
-    let none = [0u8; 0];
-    let mut nowhere = [0u8; 0];
-    step(numbers::WRITE, block, &none, written, &mut nowhere, answer)
+    if block.len() != bytes32::BLOCK_SIZE {
+        return left::refusal(Error::InvalidState);
+    }
+    let asked = frame::write_step(block, written.len(), answer);
+    ask::fill(asked, written)
 }
 
 #[no_mangle]
@@ -252,6 +237,13 @@ pub extern "C" fn ch32_i2c_read_begin(
 pub extern "C" fn ch32_i2c_read_step(block: &mut [u8], read: &mut [u8], answer: u16) -> u64
     ensures { λ r. ⌜ Leaves (readStep (now (block .entry)) (now (read .entry)) answer) r (now (block .exit)) (now (read .exit)) ⌝ }
 {
+    if block.len() != bytes32::BLOCK_SIZE {
+        return left::refusal(Error::InvalidState);
+    }
+    let kept = keep::is_kept(block[put::GROUP], block[put::PART]);
+    let place = put::word_at(block, put::PLACE);
+    let asked = frame::read_step(block, read.len(), answer);
+    keep(kept, place, asked, read, answer);
     let none = [0u8; 0];
-    step(numbers::READ, block, &none, &none, read, answer)
+    ask::fill(asked, &none)
 }

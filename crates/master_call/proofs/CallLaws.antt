@@ -41,7 +41,7 @@ use Rattle.master_step.proofs.SeenLaws.{block-told}
 use Rattle.master_call.specs.CallStep.{isCallOf, heldIn, isOpen, Stepped}
 
 -- where there is no run, nothing is open
-none-open : (g : Setting) (st : Stage) (d : Progress) → fitsNothing st d && not (isEnd (owedAt g st d)) ≡ false
+pub none-open : (g : Setting) (st : Stage) (d : Progress) → fitsNothing st d && not (isEnd (owedAt g st d)) ≡ false
 none-open g stage.Begin d = refl
 none-open g (stage.WaitStop f x) d = refl
 none-open g (stage.LaunchStart x) d = refl

@@ -2,3 +2,4 @@ pub mod HeldLaws
 pub mod CallLaws
 pub mod RunLaws
 pub mod ListLaws
+pub mod KeptLaws

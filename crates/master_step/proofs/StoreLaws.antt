@@ -85,7 +85,7 @@ module _ (c : Call) (r : Run) (d : Progress) where
   done-in b e = ended-done (d .ending) (first-true (isDone (d .ending)) b (second-true (counts r d) (isDone (d .ending) && b) e))
 
   -- what follows a byte to keep is not a refusal
-  goes-on : (st : Stage) (a n : ℕ) → fitsAt (settingOf c) r st d ≡ true → isKeep (owedAt (settingOf c) st d) ≡ true
+  pub goes-on : (st : Stage) (a n : ℕ) → fitsAt (settingOf c) r st d ≡ true → isKeep (owedAt (settingOf c) st d) ≡ true
       → Asks n (owedAt (settingOf c) (advanceAt (settingOf c) r st d a .stage) (advanceAt (settingOf c) r st d a .progress)) → n ≡ 3840 → ⊥
   goes-on stage.Begin a n fit k q = absurd (true≢false (sym k))
   goes-on (stage.WaitStop f fall.Control) a n fit k q = absurd (true≢false (sym k))
