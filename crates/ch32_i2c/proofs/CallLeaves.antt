@@ -27,7 +27,7 @@ use Rattle.master.specs.declared.state.State.{State}
 use Rattle.master.specs.Machine.{owedAt}
 use Rattle.master.specs.Calls.{settingOf, lentWith}
 use Rattle.master.specs.Steps.{needOf, step, stepRead}
-use Rattle.master_step.specs.Asked.{Asks, Fills, isKeep}
+use Rattle.asked.specs.Asked.{Asks, Fills, isKeep}
 use Rattle.master_step.specs.Held.{Refuses}
 use Rattle.master_step.proofs.SeenLaws.{all-bytes}
 use Rattle.master_call.specs.CallStep.{heldIn, isOpen, Stepped, CallSteps}

@@ -7,7 +7,7 @@ ghost use lib.ListN.{length, set};
 ghost use Rattle.access.specs.declared.ending.Error.the-variants.{InvalidState};
 ghost use Rattle.access.specs.declared.need.Need.the-variants as need;
 ghost use Rattle.access.specs.Endings.{failed};
-ghost use Rattle.master_step.specs.Asked.{Asks};
+ghost use Rattle.asked.specs.Asked.{Asks};
 ghost use Rattle.access.specs.Numbers.{nextNumber, HoldsWords};
 ghost use Rattle.block.specs.Bytes32.{bytesOf, blockSize};
 ghost use Rattle.images.specs.MasterImage.{masterFields};
@@ -29,7 +29,6 @@ use master::Move;
 use master_call::frame;
 use master_call::transaction;
 use master_call::write_read;
-use master_step::ask;
 use master_step::keep;
 use master_step::put;
 
@@ -85,7 +84,7 @@ fn begin(
 fn keep(kept: bool, place: u16, asked: u64, read: &mut [u8], answer: u16)
     ensures { λ _. ⌜ ((n : ℕ) → Asks n (need.End (failed InvalidState)) → now (read .exit) ≡ cond (kept && not (eqb asked n)) (set (now (read .entry)) place (answer % 256)) (now (read .entry))) ⌝ }
 {
-    if kept & (asked != ask::refused()) {
+    if kept & (asked != asked::refused()) {
         lent::put_at(read, place as u32, (answer % 256) as u8);
     }
 }
@@ -128,7 +127,7 @@ pub extern "C" fn ch32_i2c_transaction_step(
     let place = put::word_at(block, put::PLACE);
     let asked = transaction::transaction_step(block, list, written.len(), read.len(), answer);
     keep(kept, place, asked, read, answer);
-    ask::fill(asked, written)
+    asked::fill(asked, written)
 }
 
 #[no_mangle]
@@ -168,7 +167,7 @@ pub extern "C" fn ch32_i2c_write_read_step(
     let place = put::word_at(block, put::PLACE);
     let asked = write_read::write_read_step(block, written.len(), read.len(), answer);
     keep(kept, place, asked, read, answer);
-    ask::fill(asked, written)
+    asked::fill(asked, written)
 }
 
 #[no_mangle]
@@ -205,7 +204,7 @@ pub extern "C" fn ch32_i2c_write_step(block: &mut [u8], written: &[u8], answer: 
         return left::refusal(Error::InvalidState);
     }
     let asked = frame::write_step(block, written.len(), answer);
-    ask::fill(asked, written)
+    asked::fill(asked, written)
 }
 
 #[no_mangle]
@@ -245,5 +244,5 @@ pub extern "C" fn ch32_i2c_read_step(block: &mut [u8], read: &mut [u8], answer: 
     let asked = frame::read_step(block, read.len(), answer);
     keep(kept, place, asked, read, answer);
     let none = [0u8; 0];
-    ask::fill(asked, &none)
+    asked::fill(asked, &none)
 }

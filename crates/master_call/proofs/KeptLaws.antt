@@ -28,7 +28,7 @@ use Rattle.images.specs.declared.master_image.MasterFound.{MasterFound}
 use Rattle.images.specs.declared.master_image.MasterFound.the-variants.{At, Nothing}
 use Rattle.images.specs.MasterImage.{masterFields, masterOf, masterIn}
 use Rattle.stage_numbers.specs.MasterStage.{stageOf}
-use Rattle.master_step.specs.Asked.{Asks, isKeep}
+use Rattle.asked.specs.Asked.{Asks, isKeep}
 use Rattle.master_step.specs.Held.{Steps}
 use Rattle.master_step.proofs.KeepLaws.{kept-at}
 use Rattle.master_step.proofs.StoreLaws.{goes-on}

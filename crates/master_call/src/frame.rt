@@ -7,7 +7,6 @@ ghost use Rattle.master_call.specs.CallStep.{CallSteps};
 use crate::held;
 use crate::here;
 use images::numbers;
-use master_step::ask;
 use master_step::put;
 use master_step::step;
 
@@ -24,7 +23,7 @@ pub fn write_step(block: &mut [u8], written: usize, answer: u16) -> u64
         let here = here::here_by(false, written as u16, 0, false, block[2]);
         return step::step_in(block, here, answer);
     }
-    ask::refused()
+    asked::refused()
 }
 
 // A read of so many.
@@ -40,5 +39,5 @@ pub fn read_step(block: &mut [u8], room: usize, answer: u16) -> u64
         let here = here::here_by(true, room as u16, 0, false, block[2]);
         return step::step_in(block, here, answer);
     }
-    ask::refused()
+    asked::refused()
 }

@@ -6,7 +6,6 @@ ghost use Rattle.master_call.specs.CallStep.{CallSteps, LookedSteps};
 use crate::held;
 use crate::here;
 use images::numbers;
-use master_step::ask;
 use master_step::put;
 use master_step::step;
 use operations::FoundRun;
@@ -20,9 +19,9 @@ fn step_looked(block: &mut [u8], looked: Looked, answer: u16) -> u64
     ensures { λ r. ⌜ LookedSteps looked answer (now (block .entry)) (now (block .exit)) r ⌝ }
 {
     match looked {
-        Looked::Refused(_) => ask::refused(),
+        Looked::Refused(_) => asked::refused(),
         Looked::Found(found) => match found {
-            FoundRun::Nothing => ask::refused(),
+            FoundRun::Nothing => asked::refused(),
             FoundRun::At(run) => {
                 let direction = run.direction;
                 let reading = operation::is_read(direction);
@@ -49,5 +48,5 @@ pub fn transaction_step(
         let looked = lent::look_transaction(address, list, written, room, run);
         return step_looked(block, looked, answer);
     }
-    ask::refused()
+    asked::refused()
 }

@@ -7,7 +7,6 @@ ghost use Rattle.master_call.specs.CallStep.{CallSteps, fewEnough};
 use crate::held;
 use crate::here;
 use images::numbers;
-use master_step::ask;
 use master_step::put;
 use master_step::step;
 
@@ -37,5 +36,5 @@ pub fn write_read_step(block: &mut [u8], written: usize, room: usize, answer: u1
         let here = here::here_by(true, room as u16, 0, false, 0);
         return step::step_in(block, here, answer);
     }
-    ask::refused()
+    asked::refused()
 }

@@ -30,7 +30,7 @@ use Rattle.master.specs.declared.stage.Stage.the-variants as stage
 use Rattle.master.specs.declared.state.Progress.{Progress}
 use Rattle.master.specs.Machine.{owedFall, owedLaunch, owedWait, owedAddress, owedRecv, owedRead, owedStop, owedAbort, owedAt}
 use Rattle.stage_numbers.specs.MasterStage.{stageGroup, stageWhat, stagePart, stageOf, isStage, fallStageOf, launchStageOf, waitStageOf, addressStageOf, readStageOf, halfOf, abortStageOf}
-use Rattle.master_step.specs.Asked.{isKeep}
+use Rattle.asked.specs.Asked.{isKeep}
 
 pub recv-kept : (b : Bool) (d : Progress) → not b ≡ isKeep (owedRecv (cond b recv.Status recv.Data) d)
 recv-kept true d = refl

@@ -27,7 +27,7 @@ use Rattle.master.specs.Steps.{stateAt}
 use Rattle.stage_numbers.specs.MasterStage.{stageGroup, stageWhat, stagePart}
 use Rattle.master_step.specs.declared.here.Here.{Here}
 use Rattle.master_step.specs.Going.{hereOf}
-use Rattle.master_step.specs.Asked.{Asks}
+use Rattle.asked.specs.Asked.{Asks}
 use Rattle.master_step.specs.Held.{fieldsAt, blockAt, Moves, Refuses, Steps, Seen}
 
 -- a block with the numbers of a stage is the state's

@@ -8,4 +8,3 @@ pub mod SeenLaws
 pub mod StepLaws
 pub mod ReadyLaws
 pub mod StoreLaws
-pub mod FillLaws

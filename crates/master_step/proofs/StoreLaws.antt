@@ -31,7 +31,7 @@ use Rattle.master.specs.Machine.{owedAt, advanceAt, byteDone, stopsHere, finish
 use Rattle.master.specs.Fits.{counts, runs, fitsAt, receiving, lastOnes}
 use Rattle.master.specs.Calls.{settingOf}
 use Rattle.stage_numbers.specs.MasterStage.{isStage}
-use Rattle.master_step.specs.Asked.{Asks, isKeep}
+use Rattle.asked.specs.Asked.{Asks, isKeep}
 use Rattle.master_step.specs.Held.{Steps, stageIn, isTaken}
 use Rattle.master_step.proofs.KeepLaws.{kept-at, still-open}
 use Rattle.master_step.proofs.ReadyLaws.{ended-done, not-true}

@@ -29,7 +29,7 @@ use Rattle.master.specs.Calls.{settingOf}
 use Rattle.master.specs.Steps.{stateAt}
 use Rattle.stage_numbers.specs.MasterStage.{isStage, stageOf, flagNumber as flagByte, flagOf}
 use Rattle.master_step.specs.declared.here.Here.{Here}
-use Rattle.master_step.specs.Asked.{Asks}
+use Rattle.asked.specs.Asked.{Asks}
 use Rattle.master_step.specs.Going.{hereIn, hereOf}
 
 -- what a block says of the call c with the progress d, where these are the numbers of the stage

@@ -11,7 +11,6 @@ ghost use Rattle.master.specs.declared.state.Progress.{Progress};
 ghost use Rattle.master.specs.Machine.{to, finishTransfer, onlyFrequency, abortTransfer};
 ghost use Rattle.master.specs.Fits.{fitsAbort};
 ghost use Rattle.master_step.specs.Held.{Aborts, Aborting};
-use crate::ask;
 use crate::go;
 use crate::put;
 use crate::stage;
@@ -51,7 +50,7 @@ fn ends(block: &mut [u8]) -> u64
 {
     let error = block[put::ERROR];
     put::to(block, stage::ENDED, 0, 0);
-    ask::failed(error)
+    asked::failed(error)
 }
 
 // finish_transfer(), and then `if control.start() || control.stop()` a reset that puts FREQ, CKCFGR and RTR back,
@@ -73,71 +72,71 @@ fn abort_part(block: &mut [u8], chip: Chip, part: u8, answer: u16) -> u64
         }
         stage::FINISH_WRITE => {
             put::part(block, stage::CONTROL);
-            ask::read(Register::Ctlr1)
+            asked::read(Register::Ctlr1)
         }
         stage::CONTROL => {
             if word::bit(answer, bits::START) | word::bit(answer, bits::STOP) {
                 put::part(block, stage::FREQUENCY);
-                return ask::read(Register::Ctlr2);
+                return asked::read(Register::Ctlr2);
             }
             put::part(block, stage::MASTER);
-            ask::read(Register::Star2)
+            asked::read(Register::Star2)
         }
         // What the reset would lose: ctlr2.read().freq(), ckcfgr.read(), and rtr.read() with i2c_v3.
         stage::FREQUENCY => {
             put::saves(block, answer);
             put::part(block, stage::DIVIDER);
-            ask::read(Register::Ckcfgr)
+            asked::read(Register::Ckcfgr)
         }
         stage::DIVIDER => {
             put::saves_divider(block, answer);
             if chip.i2c_v3 {
                 put::part(block, stage::RISE);
-                return ask::read(Register::Rtr);
+                return asked::read(Register::Rtr);
             }
             put::part(block, stage::RESET);
-            ask::write(Register::Ctlr1, word::set_bit(0, bits::SWRST))
+            asked::write(Register::Ctlr1, word::set_bit(0, bits::SWRST))
         }
         stage::RISE => {
             put::saves_rise(block, answer);
             put::part(block, stage::RESET);
-            ask::write(Register::Ctlr1, word::set_bit(0, bits::SWRST))
+            asked::write(Register::Ctlr1, word::set_bit(0, bits::SWRST))
         }
         // ctlr1.write(set_swrst(true)), ctlr1.write(set_swrst(false))
         stage::RESET => {
             put::part(block, stage::RELEASE);
-            ask::write(Register::Ctlr1, word::clear_bit(0, bits::SWRST))
+            asked::write(Register::Ctlr1, word::clear_bit(0, bits::SWRST))
         }
         stage::RELEASE => {
             let frequency = only_frequency(put::word_at(block, put::WORD));
             put::part(block, stage::PUT_FREQUENCY);
-            ask::write(Register::Ctlr2, frequency)
+            asked::write(Register::Ctlr2, frequency)
         }
         // ctlr2.write(set_freq(frequency)), ckcfgr.write_value(divider), rtr.write_value(rise), ctlr1.write(set_pe(true))
         stage::PUT_FREQUENCY => {
             let divider = put::word_at(block, put::DIVIDER);
             put::part(block, stage::PUT_DIVIDER);
-            ask::write(Register::Ckcfgr, divider)
+            asked::write(Register::Ckcfgr, divider)
         }
         stage::PUT_DIVIDER => {
             if chip.i2c_v3 {
                 let rise = put::word_at(block, put::RISE);
                 put::part(block, stage::PUT_RISE);
-                return ask::write(Register::Rtr, rise);
+                return asked::write(Register::Rtr, rise);
             }
             put::part(block, stage::ENABLE);
-            ask::write(Register::Ctlr1, word::set_bit(0, bits::PE))
+            asked::write(Register::Ctlr1, word::set_bit(0, bits::PE))
         }
         stage::PUT_RISE => {
             put::part(block, stage::ENABLE);
-            ask::write(Register::Ctlr1, word::set_bit(0, bits::PE))
+            asked::write(Register::Ctlr1, word::set_bit(0, bits::PE))
         }
         stage::ENABLE => ends(block),
         // else if star2.read().msl() { generate_stop() }
         stage::MASTER => {
             if word::bit(answer, bits::MSL) {
                 put::part(block, stage::STOP_BIT_READ);
-                return ask::read(Register::Ctlr1);
+                return asked::read(Register::Ctlr1);
             }
             ends(block)
         }
@@ -161,7 +160,7 @@ pub fn abort_transfer(block: &mut [u8], what: u8, part: u8, answer: u16) -> u64
 {
     let chip = numbers::chip_of(block[put::CHIP]);
     if !fits_abort(chip, what, part) {
-        return ask::refused();
+        return asked::refused();
     }
     abort_part(block, chip, part, answer)
 }

@@ -8,7 +8,6 @@ ghost use Rattle.master.specs.declared.state.Progress.{Progress};
 ghost use Rattle.operations.specs.declared.search.Run.{Run};
 ghost use Rattle.master.specs.Machine.{readAddressed, addressed, addressPhase};
 ghost use Rattle.master_step.specs.Held.{Goes, Within, Group};
-use crate::ask;
 use crate::go;
 use crate::here;
 use crate::here::Here;
@@ -33,11 +32,11 @@ fn read_addressed(block: &mut [u8], here: Here, left: u16) -> u64
             stage::STOP_ONE,
             stage::HALF_READ,
         );
-        return ask::read(Register::Ctlr1);
+        return asked::read(Register::Ctlr1);
     }
     if (left == 1) & here.nack {
         put::to(block, stage::READ_ITER, 0, stage::START_READ);
-        return ask::read(Register::Ctlr1);
+        return asked::read(Register::Ctlr1);
     }
     go::read_bytes(block, here, left)
 }
@@ -63,7 +62,7 @@ fn address_part(block: &mut [u8], here: Here, left: u16, part: u8, answer: u16) 
                 return go::fails(block, ending::failure_of(Error::Arbitration));
             }
             put::part(block, stage::ADDRESS_MASTER);
-            ask::read(Register::Star2)
+            asked::read(Register::Star2)
         }
         stage::ADDRESS_MASTER => {
             if !word::bit(answer, bits::MSL) {
@@ -71,14 +70,14 @@ fn address_part(block: &mut [u8], here: Here, left: u16, part: u8, answer: u16) 
             }
             let address = put::word_at(block, put::ADDRESS);
             put::part(block, stage::ADDRESS_WORD);
-            ask::write(
+            asked::write(
                 Register::Datar,
                 addresses::address_word(address, here.reading),
             )
         }
         stage::ADDRESS_WORD => {
             put::to(block, stage::WAIT, stage::ADDR, stage::WAIT_STATUS);
-            ask::read(Register::Star1)
+            asked::read(Register::Star1)
         }
         _ => addressed(block, here, left),
     }
@@ -96,7 +95,7 @@ pub fn address_phase(
     ensures { λ r. ⌜ Group 4 here left what part answer (now (block .entry)) (now (block .exit)) r ⌝ }
 {
     if !here::fits_starting(here, left, what, part) {
-        return ask::refused();
+        return asked::refused();
     }
     address_part(block, here, left, part, answer)
 }

@@ -4,7 +4,6 @@ ghost use lib.ListN.{length};
 ghost use Rattle.block.specs.Bytes32.{blockSize};
 ghost use Rattle.master_step.specs.Going.{fitsBeginIn};
 ghost use Rattle.master_step.specs.Held.{Beginning};
-use crate::ask;
 use crate::here::Here;
 use crate::put;
 use crate::stage;
@@ -31,14 +30,14 @@ pub fn begins(block: &mut [u8], here: Here, left: u16, what: u8, part: u8, answe
     ensures { λ r. ⌜ Beginning here left what part answer (now (block .entry)) (now (block .exit)) r ⌝ }
 {
     if !fits_begin(block, here, left, what, part) {
-        return ask::refused();
+        return asked::refused();
     }
     put::begun(block, here);
     if here.reading {
         let two = (here.length == 2) & here.nack;
         put::saves(block, answer);
         put::to(block, stage::READ_ITER, 0, stage::POS_WRITE);
-        return ask::write(Register::Ctlr1, word::put_bit(answer, bits::POS, two));
+        return asked::write(Register::Ctlr1, word::put_bit(answer, bits::POS, two));
     }
     if word::bit(answer, bits::STOP) {
         put::to(
@@ -47,7 +46,7 @@ pub fn begins(block: &mut [u8], here: Here, left: u16, what: u8, part: u8, answe
             stage::FALL_START,
             stage::FALL_CLOCK,
         );
-        return ask::clock();
+        return asked::clock();
     }
     start::fallen(block, here, here.length, stage::FALL_START)
 }

@@ -8,9 +8,8 @@ ghost use Rattle.master.specs.declared.call.Call.{Call};
 ghost use Rattle.master.specs.declared.state.Progress.{Progress};
 ghost use Rattle.master.specs.Machine.{fails, saves, finished, writeBytes, readBytes};
 ghost use Rattle.master_step.specs.Held.{blockAt, kept, Puts, Moves, Goes};
-ghost use Rattle.master_step.specs.Asked.{Asks};
+ghost use Rattle.asked.specs.Asked.{Asks};
 ghost use Rattle.access.specs.declared.need.Need.the-variants as need;
-use crate::ask;
 use crate::here::Here;
 use crate::put;
 use crate::stage;
@@ -26,7 +25,7 @@ pub fn fails(block: &mut [u8], failure: Failure) -> u64
     let error = failure.error;
     block[put::ERROR] = ending::error_number(error);
     put::to(block, stage::ABORT, 0, 0);
-    ask::read(Register::Ctlr2)
+    asked::read(Register::Ctlr2)
 }
 
 // A register is changed: the word read is saved, and in this part of the stage the new one is written.
@@ -37,7 +36,7 @@ pub fn modifies(block: &mut [u8], part: u8, old: u16, register: Register, new: u
 {
     put::saves(block, old);
     put::part(block, part);
-    ask::write(register, new)
+    asked::write(register, new)
 }
 
 // On to a stage where a byte is to be kept, at the place that the block has.
@@ -48,7 +47,7 @@ pub fn keeps(block: &mut [u8], group: u8, part: u8) -> u64
 {
     let place = put::word_at(block, put::PLACE);
     put::to(block, group, 0, part);
-    ask::keep(place)
+    asked::keep(place)
 }
 
 // The bytes of the run are done.
@@ -64,18 +63,18 @@ pub fn finished(block: &mut [u8], here: Here, left: u16) -> u64
                 stage::FALL_END,
                 stage::FALL_CONTROL,
             );
-            return ask::read(Register::Ctlr1);
+            return asked::read(Register::Ctlr1);
         }
         put::to(block, stage::GENERATE_STOP, stage::STOP_WRITE, 0);
-        return ask::read(Register::Ctlr1);
+        return asked::read(Register::Ctlr1);
     }
     if here.more {
         put::next_run(block);
         put::to(block, stage::BEGIN, 0, 0);
-        return ask::read(Register::Ctlr1);
+        return asked::read(Register::Ctlr1);
     }
     put::to(block, stage::ENDED, 0, 0);
-    ask::done()
+    asked::done()
 }
 
 // A write goes on with its next byte.
@@ -87,7 +86,7 @@ pub fn write_bytes(block: &mut [u8], here: Here, left: u16) -> u64
         return finished(block, here, left);
     }
     put::to(block, stage::WAIT, stage::TXE, stage::WAIT_STATUS);
-    ask::read(Register::Star1)
+    asked::read(Register::Star1)
 }
 
 // A read goes on with its next byte; the last three are read by BTF, except a single one.
@@ -100,12 +99,12 @@ pub fn read_bytes(block: &mut [u8], here: Here, left: u16) -> u64
     }
     if here.nack & (left == 2) {
         put::to(block, stage::WAIT, stage::TWO, stage::WAIT_STATUS);
-        return ask::read(Register::Star1);
+        return asked::read(Register::Star1);
     }
     if here.nack & (left == 3) {
         put::to(block, stage::WAIT, stage::THREE, stage::WAIT_STATUS);
-        return ask::read(Register::Star1);
+        return asked::read(Register::Star1);
     }
     put::to(block, stage::WAIT, stage::RXNE, stage::WAIT_STATUS);
-    ask::read(Register::Star1)
+    asked::read(Register::Star1)
 }

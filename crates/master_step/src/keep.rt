@@ -4,7 +4,7 @@ ghost use Rattle.master.specs.declared.call.Setting.{Setting};
 ghost use Rattle.master.specs.declared.state.Progress.{Progress};
 ghost use Rattle.master.specs.Machine.{owedAt};
 ghost use Rattle.stage_numbers.specs.MasterStage.{stageOf};
-ghost use Rattle.master_step.specs.Asked.{isKeep};
+ghost use Rattle.asked.specs.Asked.{isKeep};
 ghost use Prim.Native.Nat.{ℕ};
 use crate::stage;
 

@@ -2,7 +2,6 @@
 // whether the stage fits, moves, writes the bytes that change, and says what is asked for next.
 pub mod abort;
 pub mod address;
-pub mod ask;
 pub mod begin;
 pub mod go;
 pub mod here;

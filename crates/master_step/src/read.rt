@@ -11,7 +11,6 @@ ghost use Rattle.operations.specs.declared.search.Run.{Run};
 ghost use Rattle.master.specs.Machine.{recvByte, blockingReadIter};
 ghost use Rattle.master_step.specs.Going.{receivingIn, shortNackIn, startBehindIn, startBeforeIn, readClosingIn, fitsReadIn};
 ghost use Rattle.master_step.specs.Held.{Within, Group};
-use crate::ask;
 use crate::go;
 use crate::here;
 use crate::here::Here;
@@ -36,7 +35,7 @@ fn recv_part(block: &mut [u8], here: Here, left: u16, part: u8, answer: u16) -> 
     if part == stage::RECV_STATUS {
         if !word::bit(answer, bits::RXNE) {
             put::to(block, stage::WAIT, stage::RXNE, stage::WAIT_CLOCK);
-            return ask::clock();
+            return asked::clock();
         }
         return go::keeps(block, stage::RECV_BYTE, stage::RECV_DATA);
     }
@@ -50,7 +49,7 @@ pub fn recv_byte(block: &mut [u8], here: Here, left: u16, what: u8, part: u8, an
     ensures { λ r. ⌜ Group 6 here left what part answer (now (block .entry)) (now (block .exit)) r ⌝ }
 {
     if !fits_recv(here, left, what, part) {
-        return ask::refused();
+        return asked::refused();
     }
     recv_part(block, here, left, part, answer)
 }
@@ -120,7 +119,7 @@ fn read_part(block: &mut [u8], here: Here, left: u16, part: u8, answer: u16) -> 
                     stage::FALL_START,
                     stage::FALL_CONTROL,
                 );
-                return ask::read(Register::Ctlr1);
+                return asked::read(Register::Ctlr1);
             }
             go::read_bytes(block, here, left)
         }
@@ -131,7 +130,7 @@ fn read_part(block: &mut [u8], here: Here, left: u16, part: u8, answer: u16) -> 
         }
         stage::ACK_WRITE => {
             put::to(block, stage::ADDRESS, 0, stage::ADDRESS_CLEARED);
-            ask::read(Register::Star2)
+            asked::read(Register::Star2)
         }
         // else if remaining == 1 && send_nack { ctlr1.modify(set_start(true)) }
         stage::START_READ => {
@@ -148,7 +147,7 @@ fn read_part(block: &mut [u8], here: Here, left: u16, part: u8, answer: u16) -> 
         stage::THIRD => {
             put::byte_done(block, put::one_less(left));
             put::to(block, stage::WAIT, stage::TWO, stage::WAIT_STATUS);
-            ask::read(Register::Star1)
+            asked::read(Register::Star1)
         }
         // ctlr1.modify(set_start(true)); datar.read(); datar.read()
         stage::AGAIN_READ => {
@@ -172,7 +171,7 @@ fn read_part(block: &mut [u8], here: Here, left: u16, part: u8, answer: u16) -> 
         }
         _ => {
             put::to(block, stage::ENDED, 0, 0);
-            ask::done()
+            asked::done()
         }
     }
 }
@@ -189,7 +188,7 @@ pub fn blocking_read_iter(
     ensures { λ r. ⌜ Group 7 here left what part answer (now (block .entry)) (now (block .exit)) r ⌝ }
 {
     if !((what == 0) & fits_read(here, left, part)) {
-        return ask::refused();
+        return asked::refused();
     }
     read_part(block, here, left, part, answer)
 }

@@ -6,7 +6,6 @@ ghost use lib.ListN.{length};
 ghost use Rattle.block.specs.Bytes32.{blockSize};
 ghost use Rattle.master_step.specs.Going.{sendingIn};
 ghost use Rattle.master_step.specs.Held.{Group};
-use crate::ask;
 use crate::here;
 use crate::here::Here;
 use crate::put;
@@ -25,8 +24,8 @@ pub fn send_byte(block: &mut [u8], here: Here, left: u16, what: u8, part: u8, an
     ensures { λ r. ⌜ Group 5 here left what part answer (now (block .entry)) (now (block .exit)) r ⌝ }
 {
     if !fits_send(here, left, what, part) {
-        return ask::refused();
+        return asked::refused();
     }
     put::to(block, stage::WAIT, stage::SENT, stage::WAIT_STATUS);
-    ask::read(Register::Star1)
+    asked::read(Register::Star1)
 }

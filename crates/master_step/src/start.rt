@@ -11,7 +11,6 @@ ghost use Rattle.operations.specs.declared.search.Run.{Run};
 ghost use Rattle.master.specs.Machine.{fallen, launchStart};
 ghost use Rattle.master_step.specs.Going.{fitsFallIn};
 ghost use Rattle.master_step.specs.Held.{Goes, Within, Group};
-use crate::ask;
 use crate::go;
 use crate::here;
 use crate::here::Here;
@@ -41,14 +40,14 @@ pub fn fallen(block: &mut [u8], here: Here, left: u16, what: u8) -> u64
 {
     if what == stage::FALL_START {
         put::to(block, stage::LAUNCH_START, 0, stage::LAUNCH_CONTROL);
-        return ask::read(Register::Ctlr1);
+        return asked::read(Register::Ctlr1);
     }
     if here.reading {
         put::to(block, stage::READ_ITER, 0, stage::POS_OFF_READ);
-        return ask::read(Register::Ctlr1);
+        return asked::read(Register::Ctlr1);
     }
     put::to(block, stage::ENDED, 0, 0);
-    ask::done()
+    asked::done()
 }
 
 // while ctlr1.read().stop() { timeout.check()? }
@@ -64,13 +63,13 @@ pub fn wait_stop_finished(
     ensures { λ r. ⌜ Group 1 here left what part answer (now (block .entry)) (now (block .exit)) r ⌝ }
 {
     if !fits_fall(here, left, what) {
-        return ask::refused();
+        return asked::refused();
     }
     match part {
         stage::FALL_CONTROL => {
             if word::bit(answer, bits::STOP) {
                 put::part(block, stage::FALL_CLOCK);
-                return ask::clock();
+                return asked::clock();
             }
             fallen(block, here, left, what)
         }
@@ -79,9 +78,9 @@ pub fn wait_stop_finished(
                 return go::fails(block, ending::failure_of(Error::Timeout));
             }
             put::part(block, stage::FALL_CONTROL);
-            ask::read(Register::Ctlr1)
+            asked::read(Register::Ctlr1)
         }
-        _ => ask::refused(),
+        _ => asked::refused(),
     }
 }
 
@@ -94,18 +93,18 @@ fn launch_part(block: &mut [u8], here: Here, left: u16, part: u8, answer: u16) -
         stage::LAUNCH_CONTROL => {
             if word::bit(answer, bits::START) {
                 put::to(block, stage::WAIT, stage::SB, stage::WAIT_STATUS);
-                return ask::read(Register::Star1);
+                return asked::read(Register::Star1);
             }
             put::part(block, stage::LAUNCH_STATUS);
-            ask::read(Register::Star1)
+            asked::read(Register::Star1)
         }
         stage::LAUNCH_STATUS => {
             if word::bit(answer, bits::SB) {
                 put::to(block, stage::WAIT, stage::SB, stage::WAIT_STATUS);
-                return ask::read(Register::Star1);
+                return asked::read(Register::Star1);
             }
             put::part(block, stage::LAUNCH_READ);
-            ask::read(Register::Ctlr1)
+            asked::read(Register::Ctlr1)
         }
         stage::LAUNCH_READ => {
             let started = word::set_bit(answer, bits::START);
@@ -117,7 +116,7 @@ fn launch_part(block: &mut [u8], here: Here, left: u16, part: u8, answer: u16) -
         }
         _ => {
             put::to(block, stage::WAIT, stage::SB, stage::WAIT_STATUS);
-            ask::read(Register::Star1)
+            asked::read(Register::Star1)
         }
     }
 }
@@ -127,7 +126,7 @@ pub fn launch_start(block: &mut [u8], here: Here, left: u16, what: u8, part: u8,
     ensures { λ r. ⌜ Group 2 here left what part answer (now (block .entry)) (now (block .exit)) r ⌝ }
 {
     if !here::fits_starting(here, left, what, part) {
-        return ask::refused();
+        return asked::refused();
     }
     launch_part(block, here, left, part, answer)
 }

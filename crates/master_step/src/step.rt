@@ -5,7 +5,6 @@ ghost use Rattle.block.specs.Bytes32.{blockSize};
 ghost use Rattle.master_step.specs.Held.{Step, StepIn, StoresIn};
 use crate::abort;
 use crate::address;
-use crate::ask;
 use crate::begin;
 use crate::here::Here;
 use crate::keep;
@@ -43,7 +42,7 @@ pub fn step(
         stage::READ_ITER => read::blocking_read_iter(block, here, left, what, part, answer),
         stage::GENERATE_STOP => stop::generate_stop(block, here, left, what, part, answer),
         stage::ABORT => abort::abort_transfer(block, what, part, answer),
-        _ => ask::refused(),
+        _ => asked::refused(),
     }
 }
 
@@ -57,7 +56,7 @@ pub fn step_in(block: &mut [u8], here: Here, answer: u16) -> u64
     let what = block[put::WHAT];
     let part = block[put::PART];
     if !ready::is_ready(block, here, left, group) {
-        return ask::refused();
+        return asked::refused();
     }
     step(block, here, left, group, what, part, answer)
 }
@@ -71,7 +70,7 @@ pub fn step_keeping(block: &mut [u8], here: Here, read: &mut [u8], answer: u16) 
     let kept = keep::is_kept(block[put::GROUP], block[put::PART]);
     let place = put::word_at(block, put::PLACE);
     let asked = step_in(block, here, answer);
-    if kept & (asked != ask::refused()) {
+    if kept & (asked != asked::refused()) {
         lent::put_at(read, place as u32, (answer % 256) as u8);
         return asked;
     }

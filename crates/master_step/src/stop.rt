@@ -11,7 +11,6 @@ ghost use Rattle.operations.specs.declared.search.Run.{Run};
 ghost use Rattle.master.specs.Machine.{stopped};
 ghost use Rattle.master_step.specs.Going.{fitsStopIn};
 ghost use Rattle.master_step.specs.Held.{Goes, Group};
-use crate::ask;
 use crate::go;
 use crate::here;
 use crate::here::Here;
@@ -45,7 +44,7 @@ fn stopped(block: &mut [u8], here: Here, left: u16, what: u8) -> u64
                 stage::FALL_END,
                 stage::FALL_CONTROL,
             );
-            ask::read(Register::Ctlr1)
+            asked::read(Register::Ctlr1)
         }
         stage::STOP_ONE => go::read_bytes(block, here, left),
         _ => go::keeps(block, stage::READ_ITER, stage::SECOND_LAST),
@@ -64,7 +63,7 @@ pub fn generate_stop(
     ensures { λ r. ⌜ Group 8 here left what part answer (now (block .entry)) (now (block .exit)) r ⌝ }
 {
     if !fits_stop(here, left, what) {
-        return ask::refused();
+        return asked::refused();
     }
     match part {
         stage::HALF_READ => go::modifies(
@@ -75,6 +74,6 @@ pub fn generate_stop(
             word::set_bit(answer, bits::STOP),
         ),
         stage::HALF_WRITE => stopped(block, here, left, what),
-        _ => ask::refused(),
+        _ => asked::refused(),
     }
 }

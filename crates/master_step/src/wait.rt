@@ -12,7 +12,6 @@ ghost use Rattle.operations.specs.declared.search.Run.{Run};
 ghost use Rattle.master.specs.Machine.{isSet, waited, tests, judged, checkAndClearErrorFlags};
 ghost use Rattle.master_step.specs.Going.{fitsWaitIn};
 ghost use Rattle.master_step.specs.Held.{Waits, Group};
-use crate::ask;
 use crate::go;
 use crate::here;
 use crate::here::Here;
@@ -66,20 +65,20 @@ fn waited(block: &mut [u8], here: Here, left: u16, what: u8) -> u64
     match what {
         stage::SB => {
             put::to(block, stage::ADDRESS, 0, stage::ADDRESS_CONTROL);
-            ask::read(Register::Ctlr1)
+            asked::read(Register::Ctlr1)
         }
         stage::ADDR => {
             if here.reading & ((left <= 2) & here.nack) {
                 put::to(block, stage::READ_ITER, 0, stage::ACK_READ);
-                return ask::read(Register::Ctlr1);
+                return asked::read(Register::Ctlr1);
             }
             put::to(block, stage::ADDRESS, 0, stage::ADDRESS_CLEARED);
-            ask::read(Register::Star2)
+            asked::read(Register::Star2)
         }
         stage::TXE => {
             let place = put::word_at(block, put::PLACE);
             put::to(block, stage::SEND_BYTE, 0, 0);
-            ask::send(place)
+            asked::send(place)
         }
         stage::SENT => {
             let rest = put::one_less(left);
@@ -88,19 +87,19 @@ fn waited(block: &mut [u8], here: Here, left: u16, what: u8) -> u64
         }
         stage::THREE => {
             put::to(block, stage::READ_ITER, 0, stage::NACK_READ);
-            ask::read(Register::Ctlr1)
+            asked::read(Register::Ctlr1)
         }
         stage::TWO => {
             if here.stops {
                 put::to(block, stage::GENERATE_STOP, stage::STOP_TWO, 0);
-                return ask::read(Register::Ctlr1);
+                return asked::read(Register::Ctlr1);
             }
             put::to(block, stage::READ_ITER, 0, stage::AGAIN_READ);
-            ask::read(Register::Ctlr1)
+            asked::read(Register::Ctlr1)
         }
         _ => {
             put::to(block, stage::RECV_BYTE, 0, 0);
-            ask::read(Register::Star1)
+            asked::read(Register::Star1)
         }
     }
 }
@@ -112,7 +111,7 @@ fn tests(block: &mut [u8], here: Here, left: u16, what: u8, status: u16) -> u64
 {
     if !is_set(what, status) {
         put::part(block, stage::WAIT_CLOCK);
-        return ask::clock();
+        return asked::clock();
     }
     waited(block, here, left, what)
 }
@@ -159,7 +158,7 @@ pub fn wait_flag(block: &mut [u8], here: Here, left: u16, what: u8, part: u8, an
     ensures { λ r. ⌜ Group 3 here left what part answer (now (block .entry)) (now (block .exit)) r ⌝ }
 {
     if !fits_wait(here, left, what) {
-        return ask::refused();
+        return asked::refused();
     }
     match part {
         stage::WAIT_STATUS => check_and_clear_error_flags(block, here, left, what, answer),
@@ -169,8 +168,8 @@ pub fn wait_flag(block: &mut [u8], here: Here, left: u16, what: u8, part: u8, an
                 return go::fails(block, ending::failure_of(Error::Timeout));
             }
             put::part(block, stage::WAIT_STATUS);
-            ask::read(Register::Star1)
+            asked::read(Register::Star1)
         }
-        _ => ask::refused(),
+        _ => asked::refused(),
     }
 }

@@ -1,0 +1,121 @@
+// What is asked for next, by number: C's number (docs/USING.md), but for a byte to send or to keep, which is asked for by its place.
+// Where the payload is lent, `fill` puts the byte in.
+ghost use mathlib.Core.Path.{_≡_};
+ghost use mathlib.Core.Bool.{true};
+ghost use lib.ListN.{getD};
+ghost use Rattle.access.specs.declared.ending.Error.the-variants.{InvalidState};
+ghost use Rattle.access.specs.declared.need.Need.the-variants as need;
+ghost use Rattle.access.specs.declared.ending.Ending.{Ending};
+ghost use Rattle.access.specs.Endings.{done, returned, failed, hasFailed};
+ghost use Rattle.images.specs.Numbers.{endingError};
+ghost use Rattle.asked.specs.Asked.{Asks, Fills};
+use registers::Register;
+use registers::register;
+
+// The kinds beside C's: a byte to send, one to keep, and one to drop (in slave calls).
+const SEND: u64 = 4;
+
+const KEEP: u64 = 5;
+
+const DROP: u64 = 6;
+
+pub fn read(register: Register) -> u64
+    ensures { λ r. ⌜ Asks r (need.Read register) ⌝ }
+{
+    1 + register::number(register) as u64 * 256
+}
+
+pub fn write(register: Register, value: u16) -> u64
+    ensures { λ r. ⌜ Asks r (need.Write register value) ⌝ }
+{
+    2 + register::number(register) as u64 * 256 + value as u64 * 65536
+}
+
+pub fn clock() -> u64
+    ensures { λ r. ⌜ Asks r need.Clock ⌝ }
+{
+    3
+}
+
+// The byte at this place of the bytes lent.
+pub fn send(place: u16) -> u64
+    ensures { λ r. ⌜ Asks r (need.Send place) ⌝ }
+{
+    SEND + place as u64 * 65536
+}
+
+// A byte to keep at this place of the bytes read.
+pub fn keep(place: u16) -> u64
+    ensures { λ r. ⌜ Asks r (need.Keep place) ⌝ }
+{
+    KEEP + place as u64 * 65536
+}
+
+// The same of a count, which may be 65,536 (a slave's reply sends one byte past its data).
+pub fn send_at(place: u32) -> u64
+    ensures { λ r. ⌜ Asks r (need.Send place) ⌝ }
+{
+    SEND + place as u64 * 65536
+}
+
+pub fn keep_at(place: u32) -> u64
+    ensures { λ r. ⌜ Asks r (need.Keep place) ⌝ }
+{
+    KEEP + place as u64 * 65536
+}
+
+// A byte that is read and dropped.
+pub fn drop() -> u64
+    ensures { λ r. ⌜ Asks r need.Drop ⌝ }
+{
+    DROP
+}
+
+// The call is done.
+pub fn done() -> u64
+    ensures { λ r. ⌜ Asks r (need.End done) ⌝ }
+{
+    0
+}
+
+// The call is done, and returns a value.
+pub fn returned(value: u16) -> u64
+    ensures { λ r. ⌜ Asks r (need.End (returned value)) ⌝ }
+{
+    value as u64 * 65536
+}
+
+// The call has met the error of this number.
+pub fn failed(error: u8) -> u64
+    ensures { λ r. ⌜ ((e : Ending) → hasFailed e ≡ true → error ≡ endingError e → Asks r (need.End e)) ⌝ }
+{
+    error as u64 * 256
+}
+
+// A refused step: nothing is written, and the number is 15's.
+pub fn refused() -> u64
+    ensures { λ r. ⌜ Asks r (need.End (failed InvalidState)) ⌝ }
+{
+    15 * 256
+}
+
+// The byte at a place, and 0 past the end.
+fn byte_at(bytes: &[u8], place: usize) -> u8
+    ensures { λ r. ⌜ r ≡ getD (now (bytes .entry)) place 0 ⌝ }
+{
+    if place < bytes.len() { bytes[place] } else { 0 }
+}
+
+// What C sees: a byte to send is put in from the bytes lent, and one to keep or to drop is read.
+pub fn fill(asked: u64, written: &[u8]) -> u64
+    ensures { λ r. ⌜ Fills asked (now (written .entry)) r ⌝ }
+{
+    if asked % 256 < SEND {
+        return asked;
+    }
+    if asked % 256 == SEND {
+        let byte = byte_at(written, (asked / 65536) as usize);
+        return write(Register::Datar, byte as u16);
+    }
+    read(Register::Datar)
+}

@@ -1,0 +1,7 @@
+pub mod Laws
+pub mod GroupLaws
+pub mod MoveLaws
+pub mod ReadyLaws
+pub mod StepLaws
+pub mod HeldLaws
+pub mod StoreLaws

@@ -1,0 +1,48 @@
+-- `slave_step::step::step` meets its contract.
+-- Assumes nothing.
+use borrow.Author.Needs.{needs}
+use Rattle.images.specs.SlaveImage.{slaveOf}
+use Rattle.slave_step.specs.Held.{heldIn}
+use mathlib.Core.Path.{refl, ap, sym}
+use lib.ListN.{getD}
+use borrow.Author.Tests.{not-true, not-false}
+use Rattle.access.specs.Endings.{endingOf}
+use Rattle.block.specs.Bytes32.{fieldsOf}
+use Rattle.images.specs.Numbers.{chipOf}
+use Rattle.slave_step.proofs.HeldLaws.{unlent, unheld, stepped, block-told, all-bytes}
+use Rattle.slave_step.proofs.step.step.Statement.{statement}
+use Rattle.slave_step.proofs.step.step.Tie as tie
+
+returns : tie.Need-returns
+unfolding heldIn fieldsOf slaveOf
+returns c = unlent (c .before .before .before .args .size) (c .before .before .before .args .answer) (c .before .before .before .args .block .now) _ _ (heldIn (c .before .before .before .args .entry) (c .before .before .before .args .block .now)) (c .before .if1 .taken) (record { block = refl; ended = c .refused .ensures })
+
+returns-2 : tie.Need-returns-2
+unfolding heldIn fieldsOf slaveOf
+returns-2 c = unheld (c .before .before .before .before .before .before .before .before .before .before .before .before .before .before .before .args .size) (c .before .before .before .before .before .before .before .before .before .before .before .before .before .before .before .args .answer) (c .before .before .before .before .before .before .before .before .before .before .before .before .before .before .before .args .block .now) _ _ (fieldsOf (c .before .before .before .before .before .before .before .before .before .before .before .before .before .before .before .args .block .now)) (c .before .before .before .before .before .before .before .before .before .before .before .before .before .before .before .args .entry) (c .before .before .before .before .before .before .before .before .before .before .before .count-at .result) (c .before .before .before .before .before .word-at .result) (c .before .before .before .is-call .result) (c .before .before .is-ready .result) (c .before .before .before .is-call .ensures) (c .before .before .before .before .before .word-at .ensures) (c .before .before .is-ready .ensures (chipOf (getD (c .before .before .before .before .before .before .before .before .before .before .before .before .before .before .before .args .block .now) 1 0)) (slaveOf (fieldsOf (c .before .before .before .before .before .before .before .before .before .before .before .before .before .before .before .args .block .now)) .progress) (sym (c .before .before .before .before .before .before .before .before .before .before .before .count-at .ensures)) (ap (endingOf (getD (c .before .before .before .before .before .before .before .before .before .before .before .before .before .before .before .args .block .now) 7 0)) (sym (c .before .before .before .before .before .word-at .ensures)))) (not-true _ (c .before .if2 .taken)) (record { block = refl; ended = c .refused2 .ensures })
+
+returns-3 : tie.Need-returns-3
+unfolding heldIn fieldsOf slaveOf
+returns-3 c = stepped (c .before .before .before .before .before .before .before .before .before .before .before .before .before .before .before .before .before .before .args .size) (c .before .before .before .before .before .before .before .before .before .before .before .before .before .before .before .before .before .before .args .answer) (c .before .before .before .before .before .before .before .before .before .before .before .before .before .before .before .before .before .before .args .block .now) _ _ (fieldsOf (c .before .before .before .before .before .before .before .before .before .before .before .before .before .before .before .before .before .before .args .block .now)) (c .before .before .before .before .before .before .before .before .before .before .before .before .before .before .before .before .before .before .args .entry) (c .before .before .before .before .before .before .before .before .before .before .before .before .before .before .count-at .result) (c .before .before .before .before .before .before .before .before .word-at .result) (c .before .before .before .before .before .before .is-call .result) (c .before .before .before .before .before .is-ready .result) (c .before .before .before .before .before .before .is-call .ensures) (c .before .before .before .before .before .before .before .before .word-at .ensures) (c .before .before .before .before .before .is-ready .ensures (chipOf (getD (c .before .before .before .before .before .before .before .before .before .before .before .before .before .before .before .before .before .before .args .block .now) 1 0)) (slaveOf (fieldsOf (c .before .before .before .before .before .before .before .before .before .before .before .before .before .before .before .before .before .before .args .block .now)) .progress) (sym (c .before .before .before .before .before .before .before .before .before .before .before .before .before .before .count-at .ensures)) (ap (endingOf (getD (c .before .before .before .before .before .before .before .before .before .before .before .before .before .before .before .before .before .before .args .block .now) 7 0)) (sym (c .before .before .before .before .before .before .before .before .word-at .ensures)))) (c .before .before .before .before .before .before .before .before .before .before .before .before .before .before .before .before .if1 .left) (c .before .before .before .before .before .before .before .before .before .before .before .before .before .before .before .before .before .slice-known .given 7 .fits) (c .before .before .before .before .before .before .before .before .before .before .before .before .before .before .count-at .ensures) (block-told (c .before .before .before .before .before .before .before .before .before .before .before .before .before .before .before .before .before .before .args .block .now) (c .before .before .before .before .before .before .before .before .before .before .before .before .before .before .before .before .before .before .args .size) (c .before .before .before .before .before .before .before .before .before .before .before .before .before .before .before .before .before .before .pre) (all-bytes (c .before .before .before .before .before .before .before .before .before .before .before .before .before .before .before .before .before .before .args .block .now) (λ i. c .before .before .before .before .before .before .before .before .before .before .before .before .before .before .before .before .before .slice-known .given i .fits))) (not-false _ (c .before .before .before .before .if2 .left)) (c .before .before .step-at .ensures)
+
+pub step-spec : {M : Type 1} → statement M
+step-spec =
+    tie.close
+    (tie.spec
+    (λ c κs. search needs)
+    returns
+    (λ c. search needs)
+    (λ c κs. search needs)
+    (λ c. search needs)
+    (λ c. search needs)
+    (λ c. search needs)
+    (λ c. search needs)
+    (λ c κs. search needs)
+    (λ c κs. search needs)
+    (λ c κs. search needs)
+    (λ c κs. search needs)
+    (λ c. search needs)
+    returns-2
+    (λ c κs. search needs)
+    (λ c. search needs)
+    returns-3)

@@ -1,0 +1,87 @@
+// What a step asks of the block before it looks at the stage: its count, and its ending.
+ghost use mathlib.Core.Path.{_≡_};
+ghost use Prim.Native.Nat.{ℕ};
+ghost use lib.Dec.{leb};
+ghost use Rattle.registers.specs.declared.chip.Chip.{Chip};
+ghost use Rattle.access.specs.Endings.{endingOf, isDone, hasFailed};
+ghost use Rattle.images.specs.SlaveImage.{kindOf};
+ghost use Rattle.slave.specs.declared.state.Progress.{Progress};
+ghost use Rattle.slave.specs.Fits.{limit, canReturn, returnsIn};
+ghost use Rattle.slave_step.specs.Held.{settingAt, closing, readyAt};
+use crate::poll;
+use crate::stage;
+use images::numbers;
+
+// The count is at most the buffer's length, or one more than the data's.
+fn counts(entry: u8, size: u16, count: u32) -> bool
+    ensures { λ r. ⌜ r ≡ leb count (limit (kindOf entry) size) ⌝ }
+{
+    match entry {
+        numbers::LISTEN => count <= 0,
+        numbers::RESPOND_TO_WRITE => count <= size as u32,
+        _ => count <= size as u32 + 1,
+    }
+}
+
+// What a call can return: a command, the bytes stored, or the bytes left over with one taken off the count or none.
+fn can_return(entry: u8, size: u16, count: u32, value: u16) -> bool
+    ensures { λ r. ⌜ r ≡ canReturn (kindOf entry) size count value ⌝ }
+{
+    match entry {
+        numbers::LISTEN => value < 12288,
+        numbers::RESPOND_TO_WRITE => value as u32 == count,
+        _ => {
+            (value == poll::left_over(size, count))
+                | (value == poll::left_over(size, poll::one_less(count)))
+        }
+    }
+}
+
+// What is to be returned is known.
+fn returns(entry: u8, size: u16, count: u32, error: u8, value: u16) -> bool
+    ensures { λ r. ⌜ r ≡ returnsIn (kindOf entry) size count (endingOf error value) ⌝ }
+{
+    (error == 0) & can_return(entry, size, count, value)
+}
+
+// No end is known.
+fn is_done(error: u8, value: u16) -> bool
+    ensures { λ r. ⌜ r ≡ isDone (endingOf error value) ⌝ }
+{
+    (error == 0) & (value == 0)
+}
+
+// An error was met, 1 to 6.
+fn has_failed(error: u8, value: u16) -> bool
+    ensures { λ r. ⌜ r ≡ hasFailed (endingOf error value) ⌝ }
+{
+    (0 < error) & (error <= 6)
+}
+
+// The stages in which what is to be returned is known: STOPF is cleared at the end of a response, or AF.
+fn is_closing(group: u8, what: u8) -> bool
+    ensures { λ r. ⌜ r ≡ closing group what ⌝ }
+{
+    ((group == stage::CLEAR_STOPF) & (what == stage::FOR_END)) | (group == stage::CLEAR_AF)
+}
+
+// The count is one that the call can have, and the ending one that the stages of the group have.
+pub fn is_ready(
+    entry: u8,
+    size: u16,
+    count: u32,
+    group: u8,
+    what: u8,
+    error: u8,
+    value: u16,
+) -> bool
+    ensures { λ r. ⌜ ((chip : Chip) (d : Progress) → d .count ≡ count → d .ending ≡ endingOf error value → r ≡ readyAt (settingAt chip entry size) d group what) ⌝ }
+{
+    if is_closing(group, what) {
+        return counts(entry, size, count) & returns(entry, size, count, error, value);
+    }
+    if group == stage::ABORT {
+        return counts(entry, size, count) & has_failed(error, value);
+    }
+    counts(entry, size, count) & is_done(error, value)
+}

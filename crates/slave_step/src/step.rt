@@ -1,0 +1,86 @@
+// The step of a slave call.
+ghost use mathlib.Core.Path.{_≡_};
+ghost use lib.ListN.{length};
+ghost use Rattle.block.specs.Bytes32.{blockSize};
+ghost use Rattle.slave_step.specs.Held.{Step, StepsFrom, StoresFrom, heldIn};
+use crate::abort;
+use crate::clear;
+use crate::held;
+use crate::keep;
+use crate::listen;
+use crate::poll;
+use crate::put;
+use crate::ready;
+use crate::receive;
+use crate::send;
+use crate::stage;
+use access::lent;
+
+// By the group of its stage. A call that has ended takes no step, and no stage is of another group.
+pub fn step_at(
+    block: &mut [u8],
+    entry: u8,
+    size: u16,
+    count: u32,
+    group: u8,
+    what: u8,
+    part: u8,
+    answer: u16,
+) -> u64
+    requires { ⌜ length (now block) ≡ blockSize ⌝ }
+    ensures { λ r. ⌜ Step group entry size count what part answer (now (block .entry)) (now (block .exit)) r ⌝ }
+{
+    match group {
+        stage::CLEAR_STOPF => clear::clear_stopf(block, entry, what, part, answer),
+        stage::STALE => clear::clear_slave_stale_flags(block, entry, what, part, answer),
+        stage::ARM => listen::arms(block, entry, what, part, answer),
+        stage::POLL => poll::polls(block, entry, size, count, what, part, answer),
+        stage::MATCH => listen::decode_slave_address(block, entry, what, part, answer),
+        stage::RECEIVE => receive::received(block, entry, size, count, what, part),
+        stage::SEND => send::sent(block, entry, size, count, what, part),
+        stage::CLEAR_AF => clear::clear_af(block, entry, what, part, answer),
+        stage::ERRORS => poll::check_errors_and_time(block, what, part, answer),
+        stage::ABORT => abort::abort_slave_transfer(block, what, part, answer),
+        _ => asked::refused(),
+    }
+}
+
+// The whole test of a block for an entry, with so many bytes lent, and the step.
+pub fn step(block: &mut [u8], entry: u8, size: usize, answer: u16) -> u64
+    requires { ⌜ length (now block) ≡ blockSize ⌝ }
+    ensures { λ r. ⌜ StepsFrom (heldIn entry (now (block .entry))) size answer (now (block .entry)) (now (block .exit)) r ⌝ }
+{
+    if 65535 < size {
+        return asked::refused();
+    }
+    let lent = size as u16;
+    let count = put::count_at(block);
+    let group = block[put::GROUP];
+    let what = block[put::WHAT];
+    let part = block[put::PART];
+    let error = block[put::ERROR];
+    let value = put::word_at(block, put::VALUE);
+    if !(held::is_call(block, entry)
+        & (((error == 0) | (value == 0))
+            & ready::is_ready(entry, lent, count, group, what, error, value))) {
+        return asked::refused();
+    }
+    step_at(block, entry, lent, count, group, what, part, answer)
+}
+
+// The same with a buffer lent: a byte that was to be kept is stored at the place that the block had counted.
+pub fn step_keeping(block: &mut [u8], entry: u8, buffer: &mut [u8], answer: u16) -> u64
+    requires { ⌜ length (now block) ≡ blockSize ⌝ }
+    ensures { λ r. ⌜ StepsFrom (heldIn entry (now (block .entry))) (length (now (buffer .entry))) answer (now (block .entry)) (now (block .exit)) r ⌝ }
+    ensures { λ _. ⌜ StoresFrom (heldIn entry (now (block .entry))) (length (now (buffer .entry))) answer (now (buffer .entry)) (now (buffer .exit)) ⌝ }
+{
+    let size = buffer.len();
+    let count = put::count_at(block);
+    let kept = keep::is_kept(block[put::GROUP], size, count);
+    let asked = step(block, entry, size, answer);
+    if kept & (asked != asked::refused()) {
+        lent::put_at(buffer, count, (answer % 256) as u8);
+        return asked;
+    }
+    asked
+}
