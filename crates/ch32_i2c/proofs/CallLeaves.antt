@@ -111,7 +111,7 @@ module _ (entry : ℕ) (b list written read : List ℕ) (a : ℕ) (size : length
   call-leaves steps fills = steps-leave entry b list written read a size all asked n after read′ fills steps unread reads
 
 -- where nothing is lent to read
-nothing-kept : (x : Need) (a : ℕ) → kept x a [] ≡ []
+pub nothing-kept : (x : Need) (a : ℕ) → kept x a [] ≡ []
 nothing-kept (need.Read r) a = refl
 nothing-kept (need.Write r v) a = refl
 nothing-kept need.Clock a = refl
@@ -120,7 +120,7 @@ nothing-kept (need.Keep p) a = refl
 nothing-kept need.Drop a = refl
 nothing-kept (need.End e) a = refl
 
-either-way : (v : Bool) (x : List ℕ) → x ≡ [] → [] ≡ cond v x []
+pub either-way : (v : Bool) (x : List ℕ) → x ≡ [] → [] ≡ cond v x []
 either-way true x e = sym e
 either-way false x e = refl
 

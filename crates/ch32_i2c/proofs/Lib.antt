@@ -4,6 +4,7 @@ pub mod MasterLeaves
 pub mod CallLeaves
 pub mod InitSlaveLeaves
 pub mod SlaveLeaves
+pub mod ResponseLeaves
 pub mod Carried
 pub mod Recorded
 pub mod MetEnds

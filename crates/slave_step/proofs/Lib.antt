@@ -5,3 +5,4 @@ pub mod ReadyLaws
 pub mod StepLaws
 pub mod HeldLaws
 pub mod StoreLaws
+pub mod LinkLaws
