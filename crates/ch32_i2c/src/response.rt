@@ -1,39 +1,14 @@
 // Listening, receives and replies.
-ghost use mathlib.Core.Path.{_≡_};
-ghost use lib.ListN.{length};
-ghost use Rattle.access.specs.Numbers.{nextNumber, HoldsWords};
-ghost use Rattle.block.specs.Bytes32.{bytesOf, blockSize};
-ghost use Rattle.slave.specs.Steps.{stateAt, handed};
-ghost use Rattle.slave_driver.specs.Lent.{bytesBy};
-ghost use Rattle.images.specs.SlaveImage.{slaveFields};
 ghost use Rattle.ch32_i2c.specs.Left.{Leaves, LeavesBlock};
 ghost use Rattle.ch32_i2c.specs.Response.{slaveBegin, listenBegin, listenStep, respondToWriteBegin, respondToWriteStep, respondToReadBegin, respondToReadStep};
 use crate::left;
 use access::Error;
 use block::bytes32;
 use images::numbers;
-use images::slave_image;
 use slave::Kind;
-use slave::Move;
-use slave::Setting;
-use slave_driver::call;
-use slave_driver::call::Went;
 use slave_driver::lent;
+use slave_step::begin;
 use slave_step::step;
-
-// Leaves in the block where a call goes, and hands out what it owes there.
-fn leave(block: &mut [u8], g: Setting, reply: &[u8], to: Move) -> u64
-    requires { ⌜ length (now block) ≡ blockSize ⌝ }
-    ensures { λ r. ⌜ r ≡ nextNumber (handed g (bytesBy (g .kind) (now (reply .entry))) to .next) ⌝ }
-    ensures { λ _. ⌜ HoldsWords (handed g (bytesBy (g .kind) (now (reply .entry))) to .next) ⌝ }
-    ensures { λ _. ⌜ now (block .exit) ≡ bytesOf (slaveFields (stateAt g to)) ⌝ }
-{
-    let stepped = call::handed(g, reply, to);
-    let state = stepped.state;
-    let next = stepped.next;
-    bytes32::put(block, slave_image::slave_fields(state));
-    access::next::number(next)
-}
 
 fn begin(kind: Kind, block: &mut [u8], chip: u8, reply: &[u8], buffer: &mut [u8]) -> u64
     ensures { λ r. ⌜ Leaves (slaveBegin kind (now (block .entry)) chip (now (reply .entry)) (now (buffer .entry))) r (now (block .exit)) (now (buffer .exit)) ⌝ }
@@ -44,11 +19,11 @@ fn begin(kind: Kind, block: &mut [u8], chip: u8, reply: &[u8], buffer: &mut [u8]
     if 3 < chip {
         return left::refusal(Error::InvalidArgument);
     }
-    let size = lent::size_of(kind, reply, buffer.len());
-    match call::first_move(numbers::chip_of(chip), kind, size) {
-        Went::To(g, to) => leave(block, g, reply, to),
-        Went::Refused(error) => left::refusal(error),
+    if 65535 < lent::size_of(kind, reply, buffer.len()) {
+        return left::refusal(Error::BufferTooLong);
     }
+    let asked = begin::begin(block, kind, chip);
+    asked::fill(asked, reply)
 }
 
 #[no_mangle]

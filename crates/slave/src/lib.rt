@@ -1,4 +1,4 @@
-// The slave's calls and the states of its machines. The meaning of both is in specs/, and the code is in crates `slave_stages` and `slave_driver`.
+// The slave's calls and the states of its machines. The meaning of both is in specs/, and the code is in crates `slave_step` and `slave_driver`.
 pub mod command;
 pub mod config;
 pub mod init;

@@ -1,2 +1,1 @@
 pub mod InitLaws
-pub mod CallLaws

@@ -1,3 +1,2 @@
 pub mod Validated
 pub mod Lent
-pub mod Went

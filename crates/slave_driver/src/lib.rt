@@ -1,7 +1,5 @@
-// The blocking slave: what a call begins with and what each step makes of an answer, checked against what is lent.
-pub mod call;
+// `init_slave` with its checks, access by access, and what is lent for a slave call. The steps of listening and of responses are in crate
+// `slave_step`.
 pub mod config;
-pub mod fits;
 pub mod init;
 pub mod lent;
-pub mod owed;

@@ -6,3 +6,4 @@ pub mod StepLaws
 pub mod HeldLaws
 pub mod StoreLaws
 pub mod LinkLaws
+pub mod BeginLaws

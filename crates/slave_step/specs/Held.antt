@@ -15,14 +15,14 @@ use Rattle.block.specs.declared.fields.Fields.{Fields}
 use Rattle.block.specs.Bytes32.{bytesOf, fieldsOf, blockSize}
 use Rattle.images.specs.declared.slave_image.SlaveFound.{SlaveFound}
 use Rattle.images.specs.declared.slave_image.SlaveFound.the-variants.{At, Nothing}
-use Rattle.images.specs.Numbers.{chipNumber, endingError, endingValue}
+use Rattle.images.specs.Numbers.{chipNumber, chipOf, endingError, endingValue}
 use Rattle.images.specs.SlaveImage.{kindEntry, kindOf, slaveFields, slaveIn}
 use Rattle.slave.specs.declared.stage.Stage.{Stage}
 use Rattle.slave.specs.declared.state.Kind.{Kind}
 use Rattle.slave.specs.declared.state.Move.{Move}
 use Rattle.slave.specs.declared.state.Progress.{Progress}
 use Rattle.slave.specs.declared.state.Setting.{Setting}
-use Rattle.slave.specs.Machine.{owedAt, advanceAt}
+use Rattle.slave.specs.Machine.{owedAt, advanceAt, start}
 use Rattle.slave.specs.Fits.{counts, returns, fitsAt}
 use Rattle.slave.specs.Steps.{stateAt, settingIn, needOf, isOpen}
 use Rattle.stage_numbers.specs.SlaveStage.{isStage, stageOf}
@@ -35,6 +35,14 @@ fieldsAt g d group what part = record { entry = kindEntry (g .kind); chip = chip
 -- its bytes
 unfoldable pub blockAt : Setting → Progress → ℕ → ℕ → ℕ → List ℕ
 blockAt g d group what part = bytesOf (fieldsAt g d group what part)
+
+-- what a block says of a call that has done nothing yet, at the first stage of a group
+unfoldable pub begunFields : ℕ → ℕ → ℕ → Fields
+begunFields entry chip group = record { entry = entry; chip = chipNumber (chipOf chip); option = 0; stage = group; what = 0; part = 0; flags = 0; error = 0; address = 0; run = 0; left = 0; place = 0; word = 0; divider = 0; rise = 0; value = 0; count = 0; second = 0; mhz = 0; unused = 0 }
+
+-- where a call of a kind begins
+unfoldable pub firstFields : Kind → ℕ → Fields
+firstFields kind chip = slaveFields (stateAt (record { chip = chipOf chip; kind = kind; size = 0 }) (start kind))
 
 -- stores that change the progress as f says, and the numbers of the stage
 pub record Puts (before after : List ℕ) (f : Progress → Progress) (group what part : ℕ → ℕ) : Type 0 where
