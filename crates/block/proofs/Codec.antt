@@ -1,6 +1,6 @@
 -- The two laws of a block: what its bytes say is said by those bytes again, and what they are made to say they do say.
 -- Assumes nothing.
-use Prim.Native.Nat.{ℕ, _+_, _*_, _%_, _/_, _<_, _≤_}
+use Prim.Native.Nat.{ℕ, suc, _+_, _*_, _%_, _/_, _<_, _≤_}
 use mathlib.Core.Path.{_≡_, refl}
 use mathlib.Core.Bool.{Bool, true, _&&_}
 use mathlib.Core.List.{List, [], _∷_, _++_, append-nil}
@@ -27,6 +27,11 @@ said-back f = simp (word-back, long-back)
 pub image-length : (f : Fields) → length (bytesOf f) ≡ 32
 unfolding bytesOf
 image-length f = refl
+
+-- every byte of a slice is one
+pub all-bytes : (b : List ℕ) → ((i : ℕ) → getD b i 0 < 256) → Bytes b
+all-bytes [] h = tt
+all-bytes (x ∷ xs) h = (h 0, all-bytes xs (λ i. h (suc i)))
 
 -- a whole image over a whole block
 pub over : (i b : List ℕ) → length i ≡ 32 → length b ≡ 32 → take (length i) i ++ drop (length i) b ≡ i

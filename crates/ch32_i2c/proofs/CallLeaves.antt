@@ -28,8 +28,9 @@ use Rattle.master.specs.Machine.{owedAt}
 use Rattle.master.specs.Calls.{settingOf, lentWith}
 use Rattle.master.specs.Steps.{needOf, step, stepRead}
 use Rattle.asked.specs.Asked.{Asks, Fills, isKeep}
+use Rattle.asked.proofs.KeptLaws.{nothing-kept}
 use Rattle.master_step.specs.Held.{Refuses}
-use Rattle.master_step.proofs.SeenLaws.{all-bytes}
+use Rattle.block.proofs.Codec.{all-bytes}
 use Rattle.master_call.specs.CallStep.{heldIn, isOpen, Stepped, CallSteps}
 use Rattle.master_call.proofs.KeptLaws.{stored-is, found-is}
 use Rattle.ch32_i2c.specs.Left.{Left, Leaves}
@@ -111,16 +112,7 @@ module _ (entry : ℕ) (b list written read : List ℕ) (a : ℕ) (size : length
   call-leaves steps fills = steps-leave entry b list written read a size all asked n after read′ fills steps unread reads
 
 -- where nothing is lent to read
-pub nothing-kept : (x : Need) (a : ℕ) → kept x a [] ≡ []
-nothing-kept (need.Read r) a = refl
-nothing-kept (need.Write r v) a = refl
-nothing-kept need.Clock a = refl
-nothing-kept (need.Send p) a = refl
-nothing-kept (need.Keep p) a = refl
-nothing-kept need.Drop a = refl
-nothing-kept (need.End e) a = refl
-
-pub either-way : (v : Bool) (x : List ℕ) → x ≡ [] → [] ≡ cond v x []
+either-way : (v : Bool) (x : List ℕ) → x ≡ [] → [] ≡ cond v x []
 either-way true x e = sym e
 either-way false x e = refl
 

@@ -6,8 +6,6 @@ use mathlib.Core.List.{List, []}
 use Prim.Native.Nat.{ℕ, _<_}
 use lib.ListN.{length, getD}
 use borrow.Author.Tests.{eq-eqb}
-use Rattle.access.specs.declared.need.Need.{Need}
-use Rattle.access.specs.Machine.{kept}
 use Rattle.block.specs.Bytes32.{blockSize, fieldsOf, Bytes}
 use Rattle.images.specs.declared.slave_image.SlaveFound.{SlaveFound}
 use Rattle.images.specs.declared.slave_image.SlaveFound.the-variants.{At, Nothing}
@@ -16,20 +14,13 @@ use Rattle.slave.specs.declared.state.Kind.{Kind}
 use Rattle.slave.specs.declared.state.Kind.the-variants.{Listen, RespondToWrite, RespondToRead}
 use Rattle.slave.specs.declared.state.State.{State}
 use Rattle.slave.specs.Calls.{sizeOf, bytesOf}
-use Rattle.slave.specs.Steps.{isOpen, needOf}
 use Rattle.slave_driver.specs.Lent.{lentWith}
 use Rattle.asked.specs.Asked.{Fills}
-use Rattle.master_step.proofs.SeenLaws.{all-bytes}
+use Rattle.block.proofs.Codec.{all-bytes}
 use Rattle.slave_step.specs.Held.{heldIn, StepsFrom, StoresFrom}
-use Rattle.slave_step.proofs.LinkLaws.{held-block, held-kind, step-left, refused-left, read-left}
+use Rattle.slave_step.proofs.LinkLaws.{held-block, held-kind, step-left, refused-left, read-left, no-buffer}
 use Rattle.ch32_i2c.specs.Left.{Leaves}
 use Rattle.ch32_i2c.specs.Response.{slaveHeld, heldLeft, slaveStep}
-use Rattle.ch32_i2c.proofs.CallLeaves.{nothing-kept, either-way}
-
--- where nothing is lent to read, nothing is stored
-unread : (f : SlaveFound) (size a : ℕ) → StoresFrom f size a [] []
-unread (At s) size a = either-way (isOpen s size) (kept (needOf s size) a []) (nothing-kept (needOf s size) a)
-unread Nothing size a = refl
 
 module _ (x : Kind) (entry : ℕ) (own : kindOf entry ≡ x) (b reply buffer : List ℕ) (a : ℕ) (size : length b ≡ 32) (all : (i : ℕ) → getD b i 0 < 256) (asked n : ℕ) (after buffer′ : List ℕ) where
   abbrev Whole : SlaveFound → Type 0
@@ -53,11 +44,11 @@ module _ (x : Kind) (entry : ℕ) (own : kindOf entry ≡ x) (b reply buffer : L
 
 module _ (b : List ℕ) (a : ℕ) (size : length b ≡ 32) (all : (i : ℕ) → getD b i 0 < 256) (asked n : ℕ) (after : List ℕ) where
   pub listen-leaves : StepsFrom (heldIn 7 b) 0 a b after asked → Fills asked [] n → Leaves (slaveStep 7 b [] [] a) n after []
-  listen-leaves steps fills = response-leaves Listen 7 refl b [] [] a size all asked n after [] steps (unread (heldIn 7 b) 0 a) fills
+  listen-leaves steps fills = response-leaves Listen 7 refl b [] [] a size all asked n after [] steps (no-buffer (heldIn 7 b) 0 a) fills
 
   pub receive-leaves : (buffer buffer′ : List ℕ) → StepsFrom (heldIn 8 b) (length buffer) a b after asked → StoresFrom (heldIn 8 b) (length buffer) a buffer buffer′ → Fills asked [] n
       → Leaves (slaveStep 8 b [] buffer a) n after buffer′
   receive-leaves buffer buffer′ steps stores fills = response-leaves RespondToWrite 8 refl b [] buffer a size all asked n after buffer′ steps stores fills
 
   pub reply-leaves : (reply : List ℕ) → StepsFrom (heldIn 9 b) (length reply) a b after asked → Fills asked reply n → Leaves (slaveStep 9 b reply [] a) n after []
-  reply-leaves reply steps fills = response-leaves RespondToRead 9 refl b reply [] a size all asked n after [] steps (unread (heldIn 9 b) (length reply) a) fills
+  reply-leaves reply steps fills = response-leaves RespondToRead 9 refl b reply [] a size all asked n after [] steps (no-buffer (heldIn 9 b) (length reply) a) fills

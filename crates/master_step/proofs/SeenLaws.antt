@@ -1,10 +1,10 @@
 -- What the dispatching caller finds by its own tests is what the groups ask for: a block of 32 bytes whose numbers beside the stage's are
 -- a call's, with no error met, is the block of the call and the progress that it tells.
 -- Assumes nothing.
-use Prim.Native.Nat.{ℕ, suc, _<_}
+use Prim.Native.Nat.{ℕ, _<_}
 use mathlib.Core.Path.{_≡_, sym, ap, _∙_}
 use mathlib.Core.Bool.{true, _&&_}
-use mathlib.Core.List.{List, [], _∷_}
+use mathlib.Core.List.{List}
 use lib.Dec.{eqb}
 use lib.ListN.{length, getD}
 use Rattle.access.proofs.Choice.{both-true}
@@ -20,10 +20,6 @@ use Rattle.operations.specs.Operations.{isRead}
 use Rattle.master_step.specs.declared.here.Here.{Here}
 use Rattle.master_step.specs.Going.{hereIn}
 use Rattle.master_step.specs.Held.{fieldsAt, blockAt, InRun}
-
-pub all-bytes : (b : List ℕ) → ((i : ℕ) → getD b i 0 < 256) → Bytes b
-all-bytes [] h = tt
-all-bytes (x ∷ xs) h = (h 0, all-bytes xs (λ i. h (suc i)))
 
 module _ (f : Fields) where
   same-call : sameFields (fieldsAt (masterOf f .call) (masterOf f .progress) (f .stage) (f .what) (f .part)) f ≡ isCall f && (true && isEnding (f .error) (f .value))

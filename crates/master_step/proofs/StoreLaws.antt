@@ -1,18 +1,12 @@
--- When a step is taken; and a byte to keep is stored exactly by a step that is taken: the number of a refusal tells.
+-- What is asked for behind a byte to keep is never a refusal: so a step that takes such a byte is told from a refused one by its number.
 -- Assumes nothing.
-use Prim.Native.Nat.{ℕ, _%_}
+use Prim.Native.Nat.{ℕ}
 use native.Mathlib.Omega.{arith}
-use mathlib.Core.Path.{_≡_, refl, sym, ap, _∙_}
-use mathlib.Core.Bool.{Bool, true, false, cond, not, _&&_, true≢false}
-use mathlib.Core.List.{List}
-use lib.Dec.{eqb, ltb}
-use lib.ListN.{getD, set}
-use borrow.Author.Tests.{eqb-true}
-use Rattle.access.specs.declared.ending.Error.the-variants.{InvalidState}
-use Rattle.access.specs.declared.need.Need.the-variants as need
-use Rattle.access.specs.Endings.{endingNumber, done, failed, isDone}
-use Rattle.access.specs.Machine.{kept, isEnd}
-use Rattle.access.proofs.Choice.{chosen, first-true, second-true, when-true, when-false}
+use mathlib.Core.Path.{_≡_, sym, ap, _∙_}
+use mathlib.Core.Bool.{Bool, true, false, not, _&&_, true≢false}
+use lib.Dec.{eqb}
+use Rattle.access.specs.Endings.{endingNumber, done, isDone}
+use Rattle.access.proofs.Choice.{chosen, first-true, second-true}
 use Rattle.operations.specs.declared.search.Run.{Run}
 use Rattle.master.specs.declared.call.Call.{Call}
 use Rattle.master.specs.declared.stage.FallStage.the-variants as fall
@@ -30,38 +24,8 @@ use Rattle.master.specs.declared.state.Move.{Move}
 use Rattle.master.specs.Machine.{owedAt, advanceAt, byteDone, stopsHere, finished, readBytes}
 use Rattle.master.specs.Fits.{counts, runs, fitsAt, receiving, lastOnes}
 use Rattle.master.specs.Calls.{settingOf}
-use Rattle.stage_numbers.specs.MasterStage.{isStage}
 use Rattle.asked.specs.Asked.{Asks, isKeep}
-use Rattle.master_step.specs.Held.{Steps, stageIn, isTaken}
-use Rattle.master_step.proofs.KeepLaws.{kept-at, still-open}
-use Rattle.master_step.proofs.ReadyLaws.{ended-done, not-true}
-
-not-false : (b : Bool) → (b ≡ false → ⊥) → b ≡ true
-not-false true h = refl
-not-false false h = absurd (h refl)
-
-both-same : {A : Type 0} (b : Bool) (x : A) → x ≡ cond b x x
-both-same true x = refl
-both-same false x = refl
-
-turned-in : (a s f : Bool) → a && (s && f) ≡ s && (f && a)
-turned-in true true true = refl
-turned-in true true false = refl
-turned-in true false f = refl
-turned-in false true true = refl
-turned-in false true false = refl
-turned-in false false f = refl
-
-only-if : (s : Bool) {x y : Bool} → (s ≡ true → x ≡ y) → s && x ≡ s && y
-only-if true h = h refl
-only-if false h = refl
-
--- a step is taken at the numbers of a stage that fits and has not ended
-pub open-is : (c : Call) (r : Run) (d : Progress) (b : List ℕ)
-    → isTaken c r d b ≡ isStage (getD b 3 0) (getD b 4 0) (getD b 5 0) && (fitsAt (settingOf c) r (stageIn b) d && not (isEnd (owedAt (settingOf c) (stageIn b) d)))
-open-is c r d b =
-    turned-in (ltb (getD b 3 0) 10) (isStage (getD b 3 0) (getD b 4 0) (getD b 5 0)) (fitsAt (settingOf c) r (stageIn b) d)
-    ∙ only-if (isStage (getD b 3 0) (getD b 4 0) (getD b 5 0)) (λ e. ap (λ (x : Bool). fitsAt (settingOf c) r (stageIn b) d && x) (sym (still-open (settingOf c) d (getD b 3 0) (getD b 4 0) (getD b 5 0) e)))
+use Rattle.master_step.proofs.ReadyLaws.{ended-done}
 
 module _ (c : Call) (r : Run) where
   -- what is asked for there is not a refusal
@@ -136,31 +100,3 @@ module _ (c : Call) (r : Run) (d : Progress) where
   goes-on (stage.Abort abort.StopRead) a n fit k q = absurd (true≢false (sym k))
   goes-on (stage.Abort abort.StopWrite) a n fit k q = absurd (true≢false (sym k))
   goes-on stage.Ended a n fit k q = absurd (true≢false (sym k))
-
-  module _ (b after read : List ℕ) (a asked n : ℕ) (steps : Steps (isTaken c r d b) c (advanceAt (settingOf c) r (stageIn b) d a) b after asked) (number : Asks n (need.End (failed InvalidState))) where
-    abbrev keeping : Bool
-    keeping = isKeep (owedAt (settingOf c) (stageIn b) d)
-
-    abbrev after-taken : List ℕ
-    after-taken = kept (owedAt (settingOf c) (stageIn b) d) a read
-
-    fitting : isTaken c r d b ≡ true → fitsAt (settingOf c) r (stageIn b) d ≡ true
-    fitting e =
-        second-true (isStage (getD b 3 0) (getD b 4 0) (getD b 5 0)) (fitsAt (settingOf c) r (stageIn b) d)
-        (second-true (ltb (getD b 3 0) 10) (isStage (getD b 3 0) (getD b 4 0) (getD b 5 0) && fitsAt (settingOf c) r (stageIn b) d) e)
-
-    pub stores : keeping ≡ true → (asked ≡ n → ⊥) → set read (d .place) (a % 256) ≡ cond (isTaken c r d b) after-taken read
-    stores k other =
-        let taken : isTaken c r d b ≡ true = not-false (isTaken c r d b) (λ e. other (steps .refused e .ended .number ∙ sym (number .number))) in
-        when-true (set read (d .place) (a % 256)) read k ∙ sym (kept-at (settingOf c) d (stageIn b) a read) ∙ when-true after-taken read taken
-
-    pub leaves : keeping && not (eqb asked n) ≡ false → read ≡ cond (isTaken c r d b) after-taken read
-    leaves = go keeping refl (eqb asked n) refl
-      where
-        go : (v : Bool) → keeping ≡ v → (u : Bool) → eqb asked n ≡ u → keeping && not (eqb asked n) ≡ false → read ≡ cond (isTaken c r d b) after-taken read
-        go false k u e h =
-            both-same (isTaken c r d b) read ∙ ap (λ (x : List ℕ). cond (isTaken c r d b) x read) (when-false (set read (d .place) (a % 256)) read k ∙ sym (kept-at (settingOf c) d (stageIn b) a read))
-        go true k true e h =
-            when-false after-taken read
-            (not-true (isTaken c r d b) (λ t. goes-on (stageIn b) a asked (fitting t) k (steps .taken t .owed) (eqb-true asked n e ∙ number .number)))
-        go true k false e h = absurd (true≢false (sym (ap (λ (x : Bool). x && not (eqb asked n)) k ∙ ap not e) ∙ h))

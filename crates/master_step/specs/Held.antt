@@ -10,7 +10,6 @@ use Rattle.access.specs.declared.ending.Error.the-variants.{InvalidState}
 use Rattle.access.specs.declared.need.Need.the-variants as need
 use Rattle.registers.specs.declared.chip.Chip.{Chip}
 use Rattle.access.specs.Endings.{done, failed, isDone, hasFailed}
-use Rattle.access.specs.Machine.{kept as stored}
 use Rattle.block.specs.declared.fields.Fields.{Fields}
 use Rattle.block.specs.Bytes32.{bytesOf, blockSize}
 use Rattle.images.specs.Numbers.{flagNumber, chipNumber, endingError, endingValue}
@@ -152,8 +151,3 @@ pub record InRun (c : Call) (r : Run) (d : Progress) (here : Here) (block : List
 abbrev pub StepIn : Here → ℕ → List ℕ → List ℕ → ℕ → Type 0
 StepIn here a before after asked =
     (c : Call) (r : Run) (d : Progress) → InRun c r d here before → Steps (isTaken c r d before) c (advanceAt (settingOf c) r (stageIn before) d a) before after asked
-
--- what the bytes read become by it
-abbrev pub StoresIn : Here → ℕ → List ℕ → List ℕ → List ℕ → Type 0
-StoresIn here a block before after =
-    (c : Call) (r : Run) (d : Progress) → InRun c r d here block → after ≡ cond (isTaken c r d block) (stored (owedAt (settingOf c) (stageIn block) d) a before) before

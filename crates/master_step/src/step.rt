@@ -2,12 +2,11 @@
 ghost use mathlib.Core.Path.{_≡_};
 ghost use lib.ListN.{length};
 ghost use Rattle.block.specs.Bytes32.{blockSize};
-ghost use Rattle.master_step.specs.Held.{Step, StepIn, StoresIn};
+ghost use Rattle.master_step.specs.Held.{Step, StepIn};
 use crate::abort;
 use crate::address;
 use crate::begin;
 use crate::here::Here;
-use crate::keep;
 use crate::put;
 use crate::read;
 use crate::ready;
@@ -16,7 +15,6 @@ use crate::stage;
 use crate::start;
 use crate::stop;
 use crate::wait;
-use access::lent;
 
 // A call that has ended takes no step, and no stage is of another group.
 pub fn step(
@@ -59,20 +57,4 @@ pub fn step_in(block: &mut [u8], here: Here, answer: u16) -> u64
         return asked::refused();
     }
     step(block, here, left, group, what, part, answer)
-}
-
-// The same, and the byte that was to be kept is stored at the place that the block had.
-pub fn step_keeping(block: &mut [u8], here: Here, read: &mut [u8], answer: u16) -> u64
-    requires { ⌜ length (now block) ≡ blockSize ⌝ }
-    ensures { λ r. ⌜ StepIn here answer (now (block .entry)) (now (block .exit)) r ⌝ }
-    ensures { λ _. ⌜ StoresIn here answer (now (block .entry)) (now (read .entry)) (now (read .exit)) ⌝ }
-{
-    let kept = keep::is_kept(block[put::GROUP], block[put::PART]);
-    let place = put::word_at(block, put::PLACE);
-    let asked = step_in(block, here, answer);
-    if kept & (asked != asked::refused()) {
-        lent::put_at(read, place as u32, (answer % 256) as u8);
-        return asked;
-    }
-    asked
 }

@@ -1,9 +1,9 @@
 -- The whole step: what the tests of a block find is the state that crate images finds in it, and the step of its numbers is that state's.
 -- Assumes nothing.
-use Prim.Native.Nat.{ℕ, suc, _<_, _≤_}
+use Prim.Native.Nat.{ℕ, _<_, _≤_}
 use mathlib.Core.Path.{_≡_, refl, sym, ap, subst, _∙_}
 use mathlib.Core.Bool.{Bool, true, false, cond, not, _&&_, _||_, true≢false}
-use mathlib.Core.List.{List, [], _∷_}
+use mathlib.Core.List.{List}
 use native.Mathlib.Omega.{arith}
 use lib.Dec.{eqb, leb, ltb}
 use lib.ListN.{length, getD}
@@ -37,21 +37,16 @@ use Rattle.slave.specs.declared.state.Kind.{Kind}
 use Rattle.slave.specs.declared.state.Move.{Move}
 use Rattle.slave.specs.declared.state.Progress.{Progress}
 use Rattle.slave.specs.declared.state.Setting.{Setting}
-use Rattle.slave.specs.declared.state.State.{State}
 use Rattle.slave.specs.Fits.{isListen, isRespondToWrite, isRespondToRead, counts, returns, returnsIn, runs, closes, fitsAt, fits}
 use Rattle.slave.specs.Machine.{owedAt, advanceAt}
 use Rattle.slave.specs.Steps.{settingIn, fitsLent, isOpen}
 use Rattle.stage_numbers.specs.SlaveStage.{isStage, stageOf, stageGroup, stageWhat, stagePart}
 use Rattle.stage_numbers.proofs.Compared.{turned, itself, with-true, reordered}
-use Rattle.slave_step.specs.Held.{fieldsAt, blockAt, settingAt, closing, endsAt, readyAt, Ready, Refuses, Steps, Step, StepsFrom}
+use Rattle.slave_step.specs.Held.{fieldsAt, blockAt, settingAt, closing, endsAt, readyAt, Refuses, Steps, Step, StepsFrom}
 use Rattle.slave_step.proofs.Laws.{refuses}
 use Rattle.slave_step.proofs.ReadyLaws.{failed-told}
 
 -- ---- a block whose numbers beside the stage's are a call's is the block of the call and the progress that it tells
-
-pub all-bytes : (b : List ℕ) → ((i : ℕ) → getD b i 0 < 256) → Bytes b
-all-bytes [] h = tt
-all-bytes (x ∷ xs) h = (h 0, all-bytes xs (λ i. h (suc i)))
 
 module _ (f : Fields) (size : ℕ) where
   same-call : sameFields (fieldsAt (settingIn (slaveOf f) size) (slaveOf f .progress) (f .stage) (f .what) (f .part)) f ≡ isCall f && (true && isEnding (f .error) (f .value))

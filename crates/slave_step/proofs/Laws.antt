@@ -1,19 +1,19 @@
 -- What the proofs of the groups share: a block is a state's, a step is taken or refused, and when a stage of a group fits.
 -- Assumes nothing.
 use mathlib.Core.Path.{_≡_, refl, sym, ap, subst, _∙_}
-use mathlib.Core.Bool.{Bool, true, false, cond, not, _&&_, _||_, true≢false}
+use mathlib.Core.Bool.{Bool, true, false, cond, not, _&&_, true≢false}
 use mathlib.Core.List.{List}
-use Prim.Native.Nat.{ℕ, suc, _+_, _*_, _%_, _/_, _<_, _≤_}
+use Prim.Native.Nat.{ℕ, suc, _+_, _*_, _%_, _/_, _≤_}
 use native.Mathlib.Omega.{arith}
-use lib.Dec.{eqb, leb, ltb}
+use lib.Dec.{eqb}
 use lib.ListN.{getD}
-use borrow.Author.Tests.{eqb-true, eq-eqb, ne-eqb, le-ltb}
+use borrow.Author.Tests.{eqb-true, ne-eqb}
 use Rattle.access.specs.declared.ending.Ending.{Ending}
 use Rattle.access.specs.declared.ending.Ending.the-variants.{Done, Failed}
 use Rattle.access.specs.declared.need.Need.{Need}
 use Rattle.access.specs.Endings.{done, returned, isDone}
 use Rattle.access.proofs.Choice.{first-true}
-use Rattle.block.specs.Bytes32.{bytesOf, wordAt, longAt}
+use Rattle.block.specs.Bytes32.{bytesOf, wordAt}
 use Rattle.images.specs.Numbers.{chipOf, endingError, endingValue}
 use Rattle.images.specs.SlaveImage.{kindOf, slaveFields}
 use Rattle.images.proofs.NumberLaws.{chip-back}
@@ -28,7 +28,7 @@ use Rattle.slave.specs.Fits.{isListen, isRespondToWrite, isRespondToRead, count
 use Rattle.slave.specs.Steps.{stateAt}
 use Rattle.stage_numbers.specs.SlaveStage.{stageGroup, stageWhat, stagePart}
 use Rattle.asked.specs.Asked.{Asks}
-use Rattle.slave_step.specs.Held.{fieldsAt, blockAt, Moves, Refuses, Steps, Ready}
+use Rattle.slave_step.specs.Held.{fieldsAt, blockAt, Moves, Refuses, Steps}
 
 -- a block with the numbers of a stage is the state's
 image : (g : Setting) (d : Progress) (st : Stage) → blockAt g d (stageGroup st) (stageWhat st) (stagePart st) ≡ bytesOf (slaveFields (stateAt g (to st d)))

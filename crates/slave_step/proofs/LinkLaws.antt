@@ -1,18 +1,20 @@
 -- What a step leaves, in the words of crate slave's `step` and `stepRead`, once the bytes lent are put into what it asks for. With these the
 -- exported step of C follows without a look at stages.
 -- Assumes nothing.
-use Prim.Native.Nat.{ℕ, _<_}
+use Prim.Native.Nat.{ℕ}
 use native.Mathlib.Omega.{arith}
 use mathlib.Core.Path.{_≡_, refl, sym, ap, _∙_}
 use mathlib.Core.Bool.{Bool, true, false, cond}
-use mathlib.Core.List.{List}
+use mathlib.Core.List.{List, []}
 use lib.Dec.{eqb}
 use lib.ListN.{length}
 use borrow.Author.Tests.{eqb-true}
 use Rattle.access.specs.declared.ending.Error.the-variants.{InvalidState}
+use Rattle.access.specs.declared.need.Need.{Need}
 use Rattle.access.specs.declared.need.Need.the-variants as need
 use Rattle.access.specs.declared.next.Next.the-variants as next
 use Rattle.access.specs.Endings.{failed}
+use Rattle.access.specs.Machine.{kept}
 use Rattle.access.specs.Numbers.{nextNumber, HoldsWords}
 use Rattle.access.proofs.Choice.{chosen}
 use Rattle.block.specs.declared.fields.Fields.{Fields}
@@ -27,8 +29,9 @@ use Rattle.slave.specs.declared.state.State.{State}
 use Rattle.slave.specs.declared.state.Stepped.{Stepped}
 use Rattle.slave.specs.Calls.{SlaveLent, sizeOf, bytesOf as sendBytes}
 use Rattle.slave.specs.Machine.{owedAt, advanceAt}
-use Rattle.slave.specs.Steps.{settingIn, isOpen, step, stepRead}
+use Rattle.slave.specs.Steps.{settingIn, needOf, isOpen, step, stepRead}
 use Rattle.asked.specs.Asked.{Fills}
+use Rattle.asked.proofs.KeptLaws.{nothing-kept}
 use Rattle.slave_step.specs.Held.{heldIn, Refuses, StepsFrom, StoresFrom}
 use Rattle.slave_step.proofs.StoreLaws.{held-image}
 
@@ -86,3 +89,8 @@ refused-left b after bytes asked n r fills =
 pub read-left : (s : State) (l : SlaveLent) (a : ℕ) (buffer after : List ℕ) → StoresFrom (At s) (sizeOf (s .kind) l) a buffer after → after ≡ stepRead s l a buffer
 unfolding stepRead
 read-left s l a buffer after e = e
+
+-- where no buffer is lent nothing is stored
+pub no-buffer : (x : SlaveFound) (size a : ℕ) → StoresFrom x size a [] []
+no-buffer (At s) size a = chosen (λ (l : List ℕ). [] ≡ l) (isOpen s size) (λ _. sym (nothing-kept (needOf s size) a)) (λ _. refl)
+no-buffer Nothing size a = refl

@@ -1,8 +1,8 @@
 -- What is seen before a step is what its group asks for; and which access is a byte to keep.
 -- Assumes nothing.
 use Prim.Native.Nat.{ℕ, _<_, _≤_}
-use mathlib.Core.Path.{_≡_, refl, sym, ap, subst, _∙_}
-use mathlib.Core.Bool.{Bool, true, false, cond, not, _&&_}
+use mathlib.Core.Path.{_≡_, refl, ap, subst, _∙_}
+use mathlib.Core.Bool.{Bool, true, false, cond, _&&_}
 use mathlib.Core.List.{List}
 use lib.Dec.{eqb, ltb}
 use lib.ListN.{getD}
@@ -11,7 +11,7 @@ use Rattle.registers.specs.declared.chip.Chip.{Chip}
 use Rattle.access.specs.declared.need.Need.the-variants as need
 use Rattle.access.proofs.Choice.{chosen}
 use Rattle.block.specs.Bytes32.{fieldsOf}
-use Rattle.images.specs.SlaveImage.{isCall, isKind, unusedEmpty}
+use Rattle.images.specs.SlaveImage.{isCall, unusedEmpty}
 use Rattle.images.proofs.NumberRanges.{chip-range}
 use Rattle.images.proofs.SlaveImageRanges.{kind-range}
 use Rattle.slave.specs.declared.stage.StopfFor.{StopfFor}

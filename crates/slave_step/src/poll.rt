@@ -1,9 +1,7 @@
 // A turn of the three loops, by its status word; errors and the clock, where a turn finds nothing to do.
 ghost use mathlib.Core.Path.{_≡_};
-ghost use mathlib.Core.Bool.{true};
 ghost use Prim.Native.Nat.{ℕ, _≤_, pred};
 ghost use lib.ListN.{length};
-ghost use Rattle.registers.specs.declared.chip.Chip.{Chip};
 ghost use Rattle.block.specs.Bytes32.{blockSize};
 ghost use Rattle.slave.specs.declared.stage.ErrorStage.the-variants as errors;
 ghost use Rattle.slave.specs.declared.stage.StopfFor.the-variants as stopf;

@@ -1,6 +1,5 @@
 // What a step asks of the block before it looks at the stage: its count, and its ending.
 ghost use mathlib.Core.Path.{_≡_};
-ghost use Prim.Native.Nat.{ℕ};
 ghost use lib.Dec.{leb};
 ghost use Rattle.registers.specs.declared.chip.Chip.{Chip};
 ghost use Rattle.access.specs.Endings.{endingOf, isDone, hasFailed};

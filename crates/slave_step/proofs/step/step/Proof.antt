@@ -1,6 +1,7 @@
 -- `slave_step::step::step` meets its contract.
 -- Assumes nothing.
 use borrow.Author.Needs.{needs}
+use Rattle.block.proofs.Codec.{all-bytes}
 use Rattle.images.specs.SlaveImage.{slaveOf}
 use Rattle.slave_step.specs.Held.{heldIn}
 use mathlib.Core.Path.{refl, ap, sym}
@@ -9,7 +10,7 @@ use borrow.Author.Tests.{not-true, not-false}
 use Rattle.access.specs.Endings.{endingOf}
 use Rattle.block.specs.Bytes32.{fieldsOf}
 use Rattle.images.specs.Numbers.{chipOf}
-use Rattle.slave_step.proofs.HeldLaws.{unlent, unheld, stepped, block-told, all-bytes}
+use Rattle.slave_step.proofs.HeldLaws.{unlent, unheld, stepped, block-told}
 use Rattle.slave_step.proofs.step.step.Statement.{statement}
 use Rattle.slave_step.proofs.step.step.Tie as tie
 
