@@ -5,7 +5,7 @@ use mathlib.Core.Path.{_≡_, refl, sym, ap, _∙_, subst}
 use mathlib.Core.Bool.{Bool, true, false, not, true≢false}
 use mathlib.Core.List.{List, [], _∷_}
 use mathlib.Core.Logic.{_⊎_, ⊎-elim}
-use native.Mathlib.Nat.{add-assoc}
+use native.Mathlib.Nat.{add-zero}
 use native.Mathlib.Numerals.{add-one}
 use native.Mathlib.Omega.{arith}
 use borrow.Author.Tests.{leb-true, leb-false}
@@ -19,9 +19,10 @@ use Rattle.operations.specs.Operations.{directionOf, wordOf, operationAt, opera
 use Rattle.operations.specs.Runs.{Span, span, writtenIn, readIn, writtenSum, readSum, runsFrom, runsOf, isEmpty, runFrom, runAt}
 use Rattle.operations.proofs.ListLaws.{no-operation, operation-first}
 use Rattle.operations.proofs.RunLaws.{turned, opens, joins, ends-by-turn, ends-at-end, none-follows, some-follows}
+use Rattle.operations.proofs.SumLaws.{spanOf, eachSpan, written-runs, read-runs}
 use Rattle.list_run.specs.declared.runs.Place.{Place}
-use Rattle.list_run.specs.Passing.{fine, runsAfter, directionAt, nowhere, startPlace, addedTo, Listed, Reached, Starts, Next, Passes, Ahead, Skips, Between, Summed, Rests}
-use Rattle.list_run.proofs.FineLaws.{fine-end, fine-part, fine-next, fine-direction, flaw-empty}
+use Rattle.list_run.specs.Passing.{fine, runsAfter, directionAt, nowhere, startPlace, addedTo, writtenTo, readTo, Listed, Reached, Starts, Opens, Next, Passes, NextOne, PassesOne, Ahead, Skips, Between, Summed, Rests}
+use Rattle.list_run.proofs.FineLaws.{fine-end, fine-part, fine-next, fine-direction, flaw-direction, flaw-empty}
 
 -- ---- within a run
 
@@ -126,6 +127,32 @@ module _ (l : List ℕ) (p : Place) (d at sum n : ℕ) (a : Along l p d at sum) 
             no = λ x. absurd (true≢false x);
           })
 
+pub count-begins : (l : List ℕ) (last : ℕ) (p : Place) (d m : ℕ) → Opens l last p d → d ≤ 1 → Along l p d (p .at) (m - m)
+count-begins l last p d m o q = subst (λ (x : ℕ). Along l p d (p .at) x) (omega arith) (run-begins l last p d (o .start) (o .first) q)
+
+-- the bytes of the direction up to there are counted, of which there were m before the run
+module _ (l : List ℕ) (p : Place) (d at m c n : ℕ) (a : Along l p d at (c - m)) (more : m ≤ c) (en : n ≡ wordOf (getD l (at + 1) 0) (getD l (at + 2) 0)) (long : d ≤ n) (few : n ≤ 65535) where
+  grown : c - m + n ≡ c + n - m
+  grown = omega arith
+
+  pub count-goes-on : at + 3 + 3 ≤ length l → getD l (at + 3) 0 ≡ d → Along l p d (at + 3) (c + n - m)
+  count-goes-on h e = subst (λ (x : ℕ). Along l p d (at + 3) x) grown (run-goes-on l p d at (c - m) n a en long few h e)
+
+  pub count-ends : (length l < at + 3 + 3) ⊎ ((at + 3 + 3 ≤ length l) × (getD l (at + 3) 0 ≡ d → ⊥)) → (last : ℕ) (q : Place) → Starts l last p → q ≡ addedTo p d (at + 3) (c + n - m) → Passes l p q
+  count-ends over last q s e = run-ends l p d at (c - m) n a en long few over last q s (e ∙ ap (addedTo p d (at + 3)) (sym grown))
+
+pub writes-end : (p : Place) (at n : ℕ) → p .written ≤ n → writtenTo p at n ≡ addedTo p 0 at (n - p .written)
+writes-end p at n h = λ i. record { ok = true; at = at; written = up i; read = sym (add-zero (p .read)) i; reading = false; sum = n - p .written }
+  where
+    up : n ≡ p .written + (n - p .written)
+    up = omega arith
+
+pub reads-end : (p : Place) (at n : ℕ) → p .read ≤ n → readTo p at n ≡ addedTo p 1 at (n - p .read)
+reads-end p at n h = λ i. record { ok = true; at = at; written = sym (add-zero (p .written)) i; read = up i; reading = true; sum = n - p .read }
+  where
+    up : n ≡ p .read + (n - p .read)
+    up = omega arith
+
 pub passes-not : (l : List ℕ) (p q : Place) → q ≡ nowhere → fine (drop (p .at) l) ≡ false → Passes l p q
 passes-not l p q e f = rw e (record { yes = λ x. absurd (true≢false (sym x)); no = λ _. f })
 
@@ -212,21 +239,85 @@ ahead-next l last k (suc ahead) p n a h q x =
 pub skips-to : (l : List ℕ) (last k ahead : ℕ) (p : Place) → p .ok ≡ true → ahead ≤ 0 → Ahead l last k ahead p → Skips l last k p
 skips-to l last k ahead p o h a = record { yes = λ _. subst (λ (j : ℕ). Ahead l last k j p) (omega arith) a; no = λ x. absurd (true≢false (sym o ∙ x)) }
 
--- the runs behind
+-- ---- the operations behind
+
+-- the first operation is one of what is left
+module _ (l : List ℕ) (at : ℕ) (h : at + 3 ≤ length l) where
+  written-first : writtenSum (runsAfter l at) ≡ writtenIn (spanOf (operationAt l at)) + writtenSum (runsAfter l (at + 3))
+  written-first =
+      written-runs (operationsOf (drop at l)) ∙ ap (λ os. writtenSum (eachSpan os)) (operation-first l at h)
+      ∙ ap (λ (x : ℕ). writtenIn (spanOf (operationAt l at)) + x) (sym (written-runs (operationsOf (drop (at + 3) l))))
+
+  read-first : readSum (runsAfter l at) ≡ readIn (spanOf (operationAt l at)) + readSum (runsAfter l (at + 3))
+  read-first =
+      read-runs (operationsOf (drop at l)) ∙ ap (λ os. readSum (eachSpan os)) (operation-first l at h)
+      ∙ ap (λ (x : ℕ). readIn (spanOf (operationAt l at)) + x) (sym (read-runs (operationsOf (drop (at + 3) l))))
+
+module _ (l : List ℕ) (last : ℕ) (p : Place) (s : Starts l last p) (d n : ℕ) (ed : getD l (p .at) 0 ≡ d) (en : n ≡ wordOf (getD l (p .at + 1) 0) (getD l (p .at + 2) 0)) where
+  h : p .at + 3 ≤ length l
+  h = omega (arith, s .whole, s .here)
+
+  written-by : writtenIn (spanOf (operationAt l (p .at))) ≡ writtenIn (span (directionOf d) n)
+  written-by = rw (ed, ← en)
+
+  read-by : readIn (spanOf (operationAt l (p .at))) ≡ readIn (span (directionOf d) n)
+  read-by = rw (ed, ← en)
+
+  pub one-passed : d ≤ 1 → d ≤ n → n ≤ 65535 → PassesOne l p (addedTo p d (p .at + 3) n)
+  one-passed known long few =
+      record {
+        yes =
+            λ _.
+            record {
+              onward = omega arith;
+              within = h;
+              small = omega (arith, both (directionOf d) (p .written) (p .read) n, s .small);
+              sound = fine-next l (p .at) h d n ed en known long;
+              written = omega (arith, written-first l (p .at) h, written-by);
+              read = omega (arith, read-first l (p .at) h, read-by);
+            };
+        no = λ x. absurd (true≢false x);
+      }
+
+  pub one-flawed : (q : Place) → q ≡ nowhere → d ≤ 1 → n < d → PassesOne l p q
+  one-flawed q e known short = rw e (record { yes = λ x. absurd (true≢false (sym x)); no = λ _. flaw-empty l (p .at) h d n ed en known short })
+
+pub one-unknown : (l : List ℕ) (last : ℕ) (p q : Place) → Starts l last p → q ≡ nowhere → 1 < getD l (p .at) 0 → PassesOne l p q
+one-unknown l last p q s e large =
+    rw e (record { yes = λ x. absurd (true≢false (sym x)); no = λ _. flaw-direction l (p .at) (omega (arith, s .whole, s .here)) large })
+
+-- the fields of a passed operation, in which the sum is of no use
+pub same-sums : (l : List ℕ) (p q t : Place) → q .ok ≡ t .ok → q .at ≡ t .at → q .written ≡ t .written → q .read ≡ t .read → PassesOne l p t → PassesOne l p q
+same-sums l p q t eo ea ew er x =
+    record {
+      yes =
+          λ y.
+          let z = x .yes (sym eo ∙ y) in
+          record {
+            onward = rw ea (z .onward);
+            within = rw ea (z .within);
+            small = rw (ea, ew, er) (z .small);
+            sound = rw ea (z .sound);
+            written = rw (ea, ew) (z .written);
+            read = rw (ea, er) (z .read);
+          };
+      no = λ y. x .no (sym eo ∙ y);
+    }
+
 pub between-start : (l : List ℕ) (last : ℕ) (p : Place) → Reached l last p → Between l last p p
 between-start l last p r = record { place = r; sound = refl; written = λ _. refl; read = λ _. refl }
 
 module _ (l : List ℕ) (last : ℕ) (p q : Place) (b : Between l last p q) where
-  pub between-next : q .at ≤ last → (t : Place) → Next l q t → Between l last p t
-  between-next h t x =
+  pub between-next : (t : Place) → NextOne l q t → Between l last p t
+  between-next t x =
       record {
-        place = reached-next l last q t (starts-at l last q (b .place) h) x;
+        place = record { whole = b .place .whole; few = b .place .few; within = x .within; small = x .small };
         sound = x .sound ∙ b .sound;
-        written = λ z. written-next l q t x (b .sound ∙ z) ∙ b .written z;
-        read = λ z. read-next l q t x (b .sound ∙ z) ∙ b .read z;
+        written = λ z. x .written ∙ b .written z;
+        read = λ z. x .read ∙ b .read z;
       }
 
-  pub rests-flawed : (t r : Place) → r ≡ nowhere → Passes l q t → t .ok ≡ false → Rests l p r
+  pub rests-flawed : (t r : Place) → r ≡ nowhere → PassesOne l q t → t .ok ≡ false → Rests l p r
   rests-flawed t r e x o = rw e (record { yes = λ y. absurd (true≢false (sym y)); no = λ _. sym (b .sound) ∙ x .no o })
 
   pub rests-part : (r : Place) → r ≡ nowhere → last < q .at → (q .at ≡ length l → ⊥) → Rests l p r

@@ -1,5 +1,5 @@
 -- What is known of each place of a list, run by run.
-use Prim.Native.Nat.{ℕ, _+_, _*_, _≤_, _<_}
+use Prim.Native.Nat.{ℕ, _+_, _*_, _-_, _≤_, _<_}
 use mathlib.Core.Path.{_≡_}
 use mathlib.Core.Bool.{Bool, true, false, cond}
 use mathlib.Core.List.{List, [], _∷_}
@@ -36,8 +36,12 @@ abbrev pub addedTo : Place → ℕ → ℕ → ℕ → Place
 addedTo p d at n =
     record { ok = true; at = at; written = p .written + writtenIn (span (directionOf d) n); read = p .read + readIn (span (directionOf d) n); reading = isRead (directionOf d); sum = n }
 
-pub record Fitting (p : Place) (n : ℕ) : Type 0 where
-  pub fits : p .written + p .read + n ≤ 4294967295
+-- the same by the bytes that are written, or read, up to there
+abbrev pub writtenTo : Place → ℕ → ℕ → Place
+writtenTo p at n = record { ok = true; at = at; written = n; read = p .read; reading = false; sum = n - p .written }
+
+abbrev pub readTo : Place → ℕ → ℕ → Place
+readTo p at n = record { ok = true; at = at; written = p .written; read = n; reading = true; sum = n - p .read }
 
 -- a list that is short enough and where its last operation can begin
 pub record Listed (l : List ℕ) (last : ℕ) : Type 0 where
@@ -58,6 +62,11 @@ pub record Starts (l : List ℕ) (last : ℕ) (p : Place) : Type 0 where
   pub here : p .at ≤ last
   pub small : p .written + p .read ≤ 65535 * p .at
 
+-- one of this direction
+pub record Opens (l : List ℕ) (last : ℕ) (p : Place) (d : ℕ) : Type 0 where
+  pub start : Starts l last p
+  pub first : getD l (p .at) 0 ≡ d
+
 -- q is behind the run that begins at p
 pub record Next (l : List ℕ) (p q : Place) : Type 0 where
   pub onward : p .at < q .at
@@ -71,6 +80,19 @@ pub record Next (l : List ℕ) (p q : Place) : Type 0 where
 
 pub record Passes (l : List ℕ) (p q : Place) : Type 0 where
   pub yes : q .ok ≡ true → Next l p q
+  pub no : q .ok ≡ false → fine (drop (p .at) l) ≡ false
+
+-- q is behind the operation at p: what is left has the same sums
+pub record NextOne (l : List ℕ) (p q : Place) : Type 0 where
+  pub onward : p .at < q .at
+  pub within : q .at ≤ length l
+  pub small : q .written + q .read ≤ 65535 * q .at
+  pub sound : fine (drop (q .at) l) ≡ fine (drop (p .at) l)
+  pub written : q .written + writtenSum (runsAfter l (q .at)) ≡ p .written + writtenSum (runsAfter l (p .at))
+  pub read : q .read + readSum (runsAfter l (q .at)) ≡ p .read + readSum (runsAfter l (p .at))
+
+pub record PassesOne (l : List ℕ) (p q : Place) : Type 0 where
+  pub yes : q .ok ≡ true → NextOne l p q
   pub no : q .ok ≡ false → fine (drop (p .at) l) ≡ false
 
 -- of the run of number k so many runs are ahead

@@ -1,7 +1,8 @@
 // The runs of a list, one after the other. `last` is where the last whole operation can begin.
 ghost use mathlib.Core.Path.{_≡_};
 ghost use mathlib.Core.Bool.{true};
-ghost use Rattle.list_run.specs.Passing.{nowhere, startPlace, Starts, Fitting, addedTo, Passes, Skips, Rests, Listed, Reached};
+ghost use Prim.Native.Nat.{_≤_};
+ghost use Rattle.list_run.specs.Passing.{nowhere, startPlace, writtenTo, readTo, Listed, Reached, Starts, Opens, Passes, Skips, PassesOne, Rests};
 use operations::operation;
 
 // Before a run, or behind the last one: the bytes written and read before it, and the direction and the bytes of the run behind
@@ -41,58 +42,91 @@ pub fn start() -> Place
     }
 }
 
-// Behind a run.
-fn added(from: Place, direction: u8, at: usize, sum: u32) -> Place
-    requires { ⌜ Fitting from sum ⌝ }
-    ensures { λ r. ⌜ r ≡ addedTo from direction at sum ⌝ }
+// Behind a run of writes, up to which so many bytes are written.
+fn behind_writes(from: Place, at: usize, written: u32) -> Place
+    requires { ⌜ from .written ≤ written ⌝ }
+    ensures { λ r. ⌜ r ≡ writtenTo from at written ⌝ }
 {
-    if direction == 0 {
-        return Place {
-            ok: true,
-            at,
-            written: from.written + sum,
-            read: from.read,
-            reading: false,
-            sum,
-        };
+    Place {
+        ok: true,
+        at,
+        written,
+        read: from.read,
+        reading: false,
+        sum: written - from.written,
     }
+}
+
+// Behind a run of reads, up to which so many bytes are read.
+fn behind_reads(from: Place, at: usize, read: u32) -> Place
+    requires { ⌜ from .read ≤ read ⌝ }
+    ensures { λ r. ⌜ r ≡ readTo from at read ⌝ }
+{
     Place {
         ok: true,
         at,
         written: from.written,
-        read: from.read + sum,
+        read,
         reading: true,
-        sum,
+        sum: read - from.read,
     }
 }
 
-// The run that begins at a place. A length below the direction's number is that of an empty read.
+fn pass_writes(list: &[u8], last: usize, from: Place) -> Place
+    requires { ⌜ Opens (now list) last from 0 ⌝ }
+    ensures { λ r. ⌜ Passes (now (list .entry)) from r ⌝ }
+{
+    let mut at = from.at;
+    let mut written = from.written;
+    loop {
+        let length = operation::word_of(list[at + 1], list[at + 2]);
+        written += length as u32;
+        at += 3;
+        if last < at {
+            return behind_writes(from, at, written);
+        }
+        if list[at] != 0 {
+            return behind_writes(from, at, written);
+        }
+    }
+}
+
+fn pass_reads(list: &[u8], last: usize, from: Place) -> Place
+    requires { ⌜ Opens (now list) last from 1 ⌝ }
+    ensures { λ r. ⌜ Passes (now (list .entry)) from r ⌝ }
+{
+    let mut at = from.at;
+    let mut read = from.read;
+    loop {
+        let length = operation::word_of(list[at + 1], list[at + 2]);
+        if length == 0 {
+            return nowhere();
+        }
+        read += length as u32;
+        at += 3;
+        if last < at {
+            return behind_reads(from, at, read);
+        }
+        if list[at] != 1 {
+            return behind_reads(from, at, read);
+        }
+    }
+}
+
+// The run that begins at a place.
 pub fn pass(list: &[u8], last: usize, from: Place) -> Place
     requires { ⌜ Starts (now list) last from ⌝ }
     ensures { λ r. ⌜ Passes (now (list .entry)) from r ⌝ }
 {
-    let begin = from.at;
-    let direction = list[begin];
-    if 1 < direction {
-        return nowhere();
+    let at = from.at;
+    let direction = list[at];
+    if direction == 0 {
+        return pass_writes(list, last, from);
     }
-    let least = direction as u16;
-    let mut at = begin;
-    let mut sum: u32 = 0;
-    loop {
-        let length = operation::word_of(list[at + 1], list[at + 2]);
-        if length < least {
-            return nowhere();
-        }
-        sum += length as u32;
-        at += 3;
-        if last < at {
-            return added(from, direction, at, sum);
-        }
-        if list[at] != direction {
-            return added(from, direction, at, sum);
-        }
+    if direction == 1 {
+        return pass_reads(list, last, from);
     }
+    nowhere()
 }
 
 // So many runs from the list's beginning on.
@@ -115,14 +149,48 @@ pub fn skip(list: &[u8], last: usize, number: u16) -> Place
     place
 }
 
-// All runs from a place on.
+// One operation, of whichever run.
+fn pass_one(list: &[u8], last: usize, from: Place) -> Place
+    requires { ⌜ Starts (now list) last from ⌝ }
+    ensures { λ r. ⌜ PassesOne (now (list .entry)) from r ⌝ }
+{
+    let at = from.at;
+    let direction = list[at];
+    let length = operation::word_of(list[at + 1], list[at + 2]);
+    if direction == 0 {
+        return Place {
+            ok: true,
+            at: at + 3,
+            written: from.written + length as u32,
+            read: from.read,
+            reading: false,
+            sum: 0,
+        };
+    }
+    if direction != 1 {
+        return nowhere();
+    }
+    if length == 0 {
+        return nowhere();
+    }
+    Place {
+        ok: true,
+        at: at + 3,
+        written: from.written,
+        read: from.read + length as u32,
+        reading: true,
+        sum: 0,
+    }
+}
+
+// All operations from a place on.
 pub fn rest(list: &[u8], last: usize, from: Place) -> Place
     requires { ⌜ Reached (now list) last from × (from .ok ≡ true) ⌝ }
     ensures { λ r. ⌜ Rests (now (list .entry)) from r ⌝ }
 {
     let mut place = from;
     while place.at <= last {
-        place = pass(list, last, place);
+        place = pass_one(list, last, place);
         if !place.ok {
             return nowhere();
         }
