@@ -1,6 +1,5 @@
 -- A step of a transfer on its block, by what is lent: the list, and how many bytes to write and to read.
-use mathlib.Core.Path.{_≡_}
-use mathlib.Core.Bool.{Bool, true, not, cond, _&&_, _||_}
+use mathlib.Core.Bool.{Bool, not, cond, _&&_, _||_}
 use mathlib.Core.List.{List}
 use Prim.Native.Nat.{ℕ, _+_}
 use lib.Dec.{eqb, leb, ltb}
@@ -9,13 +8,11 @@ use Rattle.block.specs.Bytes32.{fieldsOf, Bytes}
 use Rattle.images.specs.declared.master_image.MasterFound.{MasterFound}
 use Rattle.images.specs.declared.master_image.MasterFound.the-variants.{At, Nothing}
 use Rattle.images.specs.Numbers.{isEnding}
-use Rattle.images.specs.MasterImage.{masterOf, masterIn, isCall}
+use Rattle.images.specs.MasterImage.{masterIn, isCall}
 use Rattle.master.specs.declared.state.State.{State}
 use Rattle.master.specs.Machine.{advanceAt, runOf}
 use Rattle.master.specs.Calls.{settingOf, shapeBy}
 use Rattle.master.specs.Steps.{needOf, fitsLent}
-use Rattle.standing.specs.declared.lent.Looked.{Looked}
-use Rattle.standing.specs.Look.{look}
 use Rattle.master_step.specs.declared.here.Here.{Here}
 use Rattle.master_step.specs.Held.{Steps, Refuses}
 
@@ -49,10 +46,3 @@ Stepped Nothing list written room a before after asked = Refuses before after as
 -- THE CONTRACT of a step of this entry
 abbrev pub CallSteps : ℕ → List ℕ → ℕ → ℕ → ℕ → List ℕ → List ℕ → ℕ → Type 0
 CallSteps entry list written room a before after asked = Bytes before → Stepped (heldIn entry before) list written room a before after asked
-
--- the same where the numbers are a transaction's, and this was found of what is lent
-abbrev pub LookedSteps : Looked → ℕ → List ℕ → List ℕ → ℕ → Type 0
-LookedSteps looked a before after asked =
-    (list : List ℕ) (written room : ℕ) → Bytes before → isCallOf 2 before ≡ true
-    → looked ≡ look (masterOf (fieldsOf before) .call .kind) (masterOf (fieldsOf before) .call .address) list written room (masterOf (fieldsOf before) .progress .run)
-    → Stepped (masterIn (fieldsOf before)) list written room a before after asked

@@ -2,23 +2,11 @@
 -- Assumes nothing.
 use borrow.Author.Needs.{needs}
 use mathlib.Core.Path.{_≡_, refl, sym, _∙_}
-use Rattle.standing.specs.Look.{look}
-use Rattle.master.specs.declared.call.Kind.the-variants as kind
-use Rattle.block.specs.Bytes32.{wordAt}
-use Rattle.master_call.proofs.CallLaws.{no-call}
-use Rattle.master_call.proofs.ListLaws.{transaction-steps}
+use mathlib.Core.Bool.{true, false, not}
+use Rattle.list_run.proofs.PassLaws.{is-false, is-true}
+use Rattle.master_call.proofs.ListLaws.{calling, call-refused, list-refused, list-steps}
 use Rattle.master_call.proofs.transaction.transaction_step.Statement.{statement}
 use Rattle.master_call.proofs.transaction.transaction_step.Tie as tie
-
-returns : tie.Need-returns
-returns c =
-    λ all.
-    transaction-steps (c .before .before .before .before .before .before .before .before .before .before .before .before .before .before .args .block .now) _ _ _ _ _ _ all (sym (c .before .before .before .before .before .before .before .before .before .before .is-call-of .ensures) ∙ c .before .before .before .before .before .before .before .before .before .if1 .taken) _ (c .before .before .before .before .look-transaction .ensures ∙ rw (c .before .before .before .before .before .before .before .word-at .ensures, c .before .before .before .before .before .word-at2 .ensures)) (c .before .before .step-looked .ensures)
-
-returns-2 : tie.Need-returns-2
-returns-2 c =
-    λ all.
-    no-call 2 (c .before .before .before .before .before .before .args .block .now) _ _ _ _ _ _ (sym (c .before .before .is-call-of .ensures) ∙ c .before .if1 .left) (record { block = refl; ended = c .refused .ensures })
 
 pub transaction-step-spec : {M : Type 1} → statement M
 transaction-step-spec =
@@ -30,7 +18,20 @@ transaction-step-spec =
     (λ c κs. search needs)
     (λ c κs. search needs)
     (λ c. search needs)
-    returns
+    (λ c. 
+    λ all.
+    let e : calling (c .before .before .before .before .before .before .before .before .before .before .before .before .before .args .block .now) ≡ true = rw (← c .before .before .before .before .before .is-call-of .ensures, ← c .before .before .before .before .before .before .before .before .before .word-at .ensures) (c .before .before .before .before .if1 .taken) in
+    list-refused (c .before .before .before .before .before .before .before .before .before .before .before .before .before .args .block .now) (c .before .before .before .before .before .before .before .before .before .before .before .before .before .args .list .now) (c .before .before .before .before .before .before .before .before .before .before .before .before .before .args .written) (c .before .before .before .before .before .before .before .before .before .before .before .before .before .args .room) _ _ _ all e (c .before .before .before .find .result) (rw (← c .before .before .before .before .before .before .before .word-at2 .ensures) (c .before .before .before .find .ensures)) (is-false _ (c .before .if2 .taken)) (record { block = refl; ended = c .refused .ensures }))
+    (λ c κs. search needs)
     (λ c κs. search needs)
     (λ c. search needs)
-    returns-2)
+    (λ c. 
+    λ all.
+    let e : calling (c .before .before .before .before .before .before .before .before .before .before .before .before .before .before .before .before .before .args .block .now) ≡ true = rw (← c .before .before .before .before .before .before .before .before .before .is-call-of .ensures, ← c .before .before .before .before .before .before .before .before .before .before .before .before .before .word-at .ensures) (c .before .before .before .before .before .before .before .before .if1 .taken) in
+    list-steps (c .before .before .before .before .before .before .before .before .before .before .before .before .before .before .before .before .before .args .block .now) (c .before .before .before .before .before .before .before .before .before .before .before .before .before .before .before .before .before .args .list .now) (c .before .before .before .before .before .before .before .before .before .before .before .before .before .before .before .before .before .args .written) (c .before .before .before .before .before .before .before .before .before .before .before .before .before .before .before .before .before .args .room) _ _ _ all e (c .before .before .before .before .before .before .before .find .result) (rw (← c .before .before .before .before .before .before .before .before .before .before .before .word-at2 .ensures) (c .before .before .before .before .before .before .before .find .ensures)) (c .before .before .before .before .before .before .before .before .before .before .before .before .before .before .before .before .before .pre) (is-true _ (c .before .before .before .before .before .if2 .left)) _ (c .before .before .before .before .here-by .ensures) (c .before .before .step-in .ensures))
+    (λ c κs. search needs)
+    (λ c. search needs)
+    (λ c. 
+    λ all.
+    let e : calling (c .before .before .before .before .before .before .before .before .before .before .args .block .now) ≡ false = rw (← c .before .before .is-call-of .ensures, ← c .before .before .before .before .before .before .word-at .ensures) (c .before .if1 .left) in
+    call-refused (c .before .before .before .before .before .before .before .before .before .before .args .block .now) _ _ _ _ _ _ e (record { block = refl; ended = c .refused2 .ensures })))
