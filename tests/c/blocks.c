@@ -1,8 +1,13 @@
-/* Blocks that are no call's image, and steps at the wrong time: 15, and every lent byte as before. */
+/* Blocks that are no call's image, and steps at the wrong time: 15, and every lent byte as before. One refused step in eight is tried with
+ * everything that it is lent in read-only memory: a store, even of the byte that is there, ends the program. */
+#define _DEFAULT_SOURCE
 #include "call.h"
 
+#include <signal.h>
 #include <stdio.h>
 #include <string.h>
+#include <sys/mman.h>
+#include <unistd.h>
 
 #ifndef LAYOUT
 #define LAYOUT "layout.h"
@@ -12,14 +17,45 @@
 #define WALKS 12       /* random walks for each entry */
 #define WALK_LENGTH 40 /* steps of a walk at most */
 
-static struct call c, tried, before;
+#define PAGES 65536 /* a multiple of every size of a page */
+
+static struct call c, before;
+
+/* Alone on its pages. */
+static union {
+    struct call call;
+    uint8_t pages[(sizeof(struct call) / PAGES + 1) * PAGES];
+} alone __attribute__((aligned(PAGES)));
+
+#define tried alone.call
+
+static void stored(int signal)
+{
+    static const char text[] = "FAILED a refused step stored into read-only memory\n";
+    (void)signal;
+    _exit(write(STDOUT_FILENO, text, sizeof text - 1) < 0 ? 2 : 1);
+}
+
+/* A step with everything lent in read-only memory. */
+static uint64_t read_only_step(uint16_t answer)
+{
+    uint64_t next;
+    signal(SIGSEGV, stored);
+    check(mprotect(&alone, sizeof alone, PROT_READ) == 0, "no read-only memory");
+    next = step(&tried, answer);
+    check(mprotect(&alone, sizeof alone, PROT_READ | PROT_WRITE) == 0, "no memory to write again");
+    signal(SIGSEGV, SIG_DFL);
+    return next;
+}
 
 /* A step on `tried` that has to be refused. */
 static int refused_step(const char *what, unsigned detail)
 {
+    static unsigned turn;
+    uint16_t answer = (uint16_t)chance(0x10000);
     uint64_t next;
     keep(&before, &tried);
-    next = step(&tried, (uint16_t)chance(0x10000));
+    next = turn++ % 8 ? step(&tried, answer) : read_only_step(answer);
     return check(next == ending(15), "%s step: %s (%u): got %#llx", entry_names[tried.entry], what, detail, (unsigned long long)next) &
            check(same_bytes(&tried, &before), "%s step: %s (%u): bytes changed", entry_names[tried.entry], what, detail);
 }

@@ -38,7 +38,7 @@ fn leave(block: &mut [u8], stepped: Stepped) -> u64
 {
     let state = stepped.state;
     let next = stepped.next;
-    bytes32::put(block, init_image::init_fields(state));
+    bytes32::renew(block, init_image::init_fields(state));
     access::next::number(next)
 }
 

@@ -44,7 +44,7 @@ fn leave(block: &mut [u8], stepped: InitStepped) -> u64
 {
     let state = stepped.state;
     let next = stepped.next;
-    bytes32::put(block, init_slave_image::init_slave_fields(state));
+    bytes32::renew(block, init_slave_image::init_slave_fields(state));
     access::next::number(next)
 }
 

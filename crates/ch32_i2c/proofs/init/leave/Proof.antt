@@ -14,4 +14,4 @@ leave-spec =
     (λ c κs. search needs)
     (λ c κs. search needs)
     (λ c. search needs)
-    (λ c. (c .number .ensures .0, (c .number .ensures .1, c .before .before .before .put .ensures ∙ ap bytesOf (c .before .before .before .before .init-fields .ensures)))))
+    (λ c. (c .number .ensures .0, (c .number .ensures .1, c .before .before .before .renew .ensures ∙ ap bytesOf (c .before .before .before .before .init-fields .ensures)))))
