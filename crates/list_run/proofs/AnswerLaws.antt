@@ -62,8 +62,12 @@ module _ (l : List ℕ) (w r : ℕ) where
 
   accepted : Accepts l w r → causeAt kind.Transaction 0 l w r ≡ none
   accepted a =
-      rw (le-ltb 768 (length l) (a .few), fine-fault-free l 0 (a .sound) (omega (arith, written-runs (operationsOf l), read-runs (operationsOf l), a .total)),
-      eq-eqb w (writtenSum (runsOf (operationsOf l))) (a .written), eq-eqb r (readSum (runsOf (operationsOf l))) (a .read))
+      rw (
+        le-ltb 768 (length l) (a .few),
+        fine-fault-free l 0 (a .sound) (omega (arith, written-runs (operationsOf l), read-runs (operationsOf l), a .total)),
+        eq-eqb w (writtenSum (runsOf (operationsOf l))) (a .written),
+        eq-eqb r (readSum (runsOf (operationsOf l))) (a .read),
+      )
 
   module _ (k : ℕ) where
     pub not-found : (x : Found) → x ≡ noRun → (Accepts l w r → runAt (runsOf (operationsOf l)) k ≡ Nothing) → x ≡ foundOf (look kind.Transaction 0 l w r k)
