@@ -1,7 +1,6 @@
 -- `list_run::find::find` meets its contract: what is known at the places before the run, behind it and at the list's end is the answer.
 -- Assumes nothing.
 use borrow.Author.Needs.{needs}
-use mathlib.Core.Path.{refl}
 use native.Mathlib.Omega.{arith}
 use mathlib.Core.Bool.{true, false}
 use Rattle.list_run.proofs.PassLaws.{is-false, is-true, ahead-over, ahead-flawed, starts-at, reached-next}

@@ -1,8 +1,8 @@
 -- `master_call::transaction::transaction_step` meets its contract.
 -- Assumes nothing.
 use borrow.Author.Needs.{needs}
-use mathlib.Core.Path.{_≡_, refl, sym, _∙_}
-use mathlib.Core.Bool.{true, false, not}
+use mathlib.Core.Path.{_≡_, refl}
+use mathlib.Core.Bool.{true, false}
 use Rattle.list_run.proofs.PassLaws.{is-false, is-true}
 use Rattle.list_run.proofs.AnswerLaws.{found-fits}
 use Rattle.master_call.proofs.ListLaws.{calling, call-refused, list-refused, list-steps}
