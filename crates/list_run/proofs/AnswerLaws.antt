@@ -1,7 +1,7 @@
 -- The answer by what is known of the list.
 -- Assumes nothing.
 use Prim.Native.Nat.{ℕ, _+_, _≤_, _<_}
-use mathlib.Core.Path.{_≡_, refl, sym, ap, _∙_}
+use mathlib.Core.Path.{_≡_, refl, sym, _∙_}
 use mathlib.Core.Bool.{Bool, true, false, cond, not, _||_, true≢false}
 use mathlib.Core.List.{List}
 use mathlib.Core.Option.{Option, none, some}
@@ -18,6 +18,7 @@ use Rattle.operations.specs.Operations.{isRead, operationsOf}
 use Rattle.operations.specs.Runs.{span, runsOf, writtenSum, readSum, runAfter, runFrom, runAt}
 use Rattle.operations.proofs.ListLaws.{no-operation}
 use Rattle.operations.specs.Search.{faultFrom}
+use Rattle.operations.proofs.FoundLaws.{found-small}
 use Rattle.operations.proofs.SumLaws.{written-runs, read-runs, fault-free-small}
 use Rattle.master.specs.declared.call.Kind.the-variants as kind
 use Rattle.master.specs.Calls.{causeAt, mismatch}
@@ -28,7 +29,7 @@ use Rattle.list_run.specs.declared.runs.Place.{Place}
 use Rattle.list_run.specs.Passing.{fine, runsAfter, directionAt, Ahead, Next, Summed}
 use Rattle.list_run.specs.Answer.{noRun, foundOf}
 use Rattle.list_run.proofs.FineLaws.{fault-free-fine, fine-fault-free}
-use Rattle.list_run.proofs.PassLaws.{both, more-is, written-next, read-next}
+use Rattle.list_run.proofs.PassLaws.{more-is, written-next, read-next}
 
 -- an acceptable list
 pub record Accepts (l : List ℕ) (w r : ℕ) : Type 0 where
@@ -61,8 +62,12 @@ module _ (l : List ℕ) (w r : ℕ) where
 
   accepted : Accepts l w r → causeAt kind.Transaction 0 l w r ≡ none
   accepted a =
-      rw (le-ltb 768 (length l) (a .few), fine-fault-free l 0 (a .sound) (omega (arith, written-runs (operationsOf l), read-runs (operationsOf l), a .total)),
-      eq-eqb w (writtenSum (runsOf (operationsOf l))) (a .written), eq-eqb r (readSum (runsOf (operationsOf l))) (a .read))
+      rw (
+        le-ltb 768 (length l) (a .few),
+        fine-fault-free l 0 (a .sound) (omega (arith, written-runs (operationsOf l), read-runs (operationsOf l), a .total)),
+        eq-eqb w (writtenSum (runsOf (operationsOf l))) (a .written),
+        eq-eqb r (readSum (runsOf (operationsOf l))) (a .read),
+      )
 
   module _ (k : ℕ) where
     pub not-found : (x : Found) → x ≡ noRun → (Accepts l w r → runAt (runsOf (operationsOf l)) k ≡ Nothing) → x ≡ foundOf (look kind.Transaction 0 l w r k)
@@ -77,6 +82,20 @@ module _ (l : List ℕ) (w r : ℕ) where
         → record { found = true; reading = isRead (t .direction); length = t .length; before = t .before; more = t .more } ≡ foundOf (look kind.Transaction 0 l w r k)
     unfolding look
     is-found a t e = rw (accepted a, e)
+
+    -- the run's numbers fit 16 bits
+    pub found-fits : (x : Found) → x ≡ foundOf (look kind.Transaction 0 l w r k) → (x .length < 65536) × (x .before < 65536)
+    unfolding look
+    found-fits x ex = rw ex (go (causeAt kind.Transaction 0 l w r) (runAt (runsOf (operationsOf l)) k) refl refl)
+      where
+        go : (o : Option Error) (f : FoundRun) → causeAt kind.Transaction 0 l w r ≡ o → runAt (runsOf (operationsOf l)) k ≡ f
+            → (foundOf (lookedWith o f) .length < 65536) × (foundOf (lookedWith o f) .before < 65536)
+        go (some e) f q e' = (omega arith, omega arith)
+        go none Nothing q e' = (omega arith, omega arith)
+        go none (At t) q e' =
+            let small : t .before + t .length ≤ 0 + writtenSum (runsOf (operationsOf l)) + (0 + readSum (runsOf (operationsOf l))) = found-small (runsOf (operationsOf l)) 0 0 k t e' in
+            let total : writtenSum (runsOf (operationsOf l)) + readSum (runsOf (operationsOf l)) ≤ 65535 = accepts q .total in
+            (omega arith, omega arith)
 
 -- ---- the places of the search
 
@@ -100,9 +119,6 @@ module _ (l : List ℕ) (last k : ℕ) (p q e : Place) (a : Ahead l last k 0 p) 
     all-read : e .read ≡ readSum (runsOf (operationsOf l))
     all-read = s .read ∙ read-next l p q x (a .sound ∙ good) ∙ a .read good
 
-    within-sums : p .written + p .read + q .sum ≤ e .written + e .read
-    within-sums = omega (arith, both (directionAt l (p .at)) (p .written) (p .read) (q .sum), x .written, x .read, s .written, s .read)
-
     -- what the list comes to is too much, or not what is lent
     module _ (w r : ℕ) (n : Accepts l w r) where
       pub too-long : 65535 < e .written + e .read → runAt (runsOf (operationsOf l)) k ≡ Nothing
@@ -113,17 +129,6 @@ module _ (l : List ℕ) (last k : ℕ) (p q e : Place) (a : Ahead l last k 0 p) 
 
       pub other-read : (r ≡ e .read → ⊥) → runAt (runsOf (operationsOf l)) k ≡ Nothing
       other-read h = absurd (h (n .read ∙ sym all-read))
-
-    -- the run's numbers fit 16 bits
-    module _ (h : e .written + e .read ≤ 65535) where
-      pub length-fits : q .sum < 65536
-      length-fits = omega (arith, within-sums)
-
-      pub written-fits : p .written < 65536
-      written-fits = omega (arith, within-sums)
-
-      pub read-fits : p .read < 65536
-      read-fits = omega (arith, within-sums)
 
     the-run : runAt (runsOf (operationsOf l)) k ≡ At (runAfter (p .written) (p .read) (span (directionAt l (p .at)) (q .sum)) (runsAfter l (q .at)))
     unfolding runFrom

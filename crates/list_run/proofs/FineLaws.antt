@@ -4,16 +4,14 @@ use Prim.Native.Nat.{ℕ, zero, suc, _+_, _-_, _≤_, _<_}
 use mathlib.Core.Path.{_≡_, refl, sym, _∙_}
 use mathlib.Core.Bool.{Bool, true, false, cond, _&&_, true≢false}
 use mathlib.Core.List.{List, [], _∷_}
-use mathlib.Core.Option.{Option, none, some}
+use mathlib.Core.Option.{none, some}
 use native.Mathlib.Numerals.{add-one, add-two, add-three}
 use native.Mathlib.Omega.{arith}
-use borrow.Author.Tests.{lt-ltb, le-ltb, eq-eqb, ne-eqb}
+use borrow.Author.Tests.{lt-ltb, le-ltb, ltb-true, ltb-false, ne-eqb}
 use lib.Dec.{ltb, eqb}
 use lib.ListN.{length, getD, drop, drop-of-length-le, length-drop}
 use lib.Seq.{drop-cons}
-use Rattle.access.specs.declared.ending.Error.{Error}
 use Rattle.access.specs.declared.ending.Error.the-variants.{Overrun, BufferTooLong, InvalidArgument}
-use Rattle.operations.specs.declared.operation.Operation.{Operation}
 use Rattle.operations.specs.Operations.{isRead, directionOf, emptyRead, wordOf, operationOf, operationAt, operationsOf}
 use Rattle.operations.specs.Runs.{writtenIn, readIn, writtenSum, readSum}
 use Rattle.operations.specs.Search.{faultFrom}
@@ -36,13 +34,13 @@ short-fine (a ∷ b ∷ []) p h = refl
 short-fine (a ∷ b ∷ c ∷ l) p h = absurd (omega arith)
 
 -- an empty read is shorter than its direction's number
-pub short-empty : (d n : ℕ) → d ≤ 1 → n < d → isRead (directionOf d) && eqb n 0 ≡ true
+short-empty : (d n : ℕ) → d ≤ 1 → n < d → isRead (directionOf d) && eqb n 0 ≡ true
 short-empty zero n p h = absurd (omega arith)
 short-empty (suc zero) zero p h = refl
 short-empty (suc zero) (suc n) p h = absurd (omega arith)
 short-empty (suc (suc d)) n p h = absurd (omega arith)
 
-pub long-full : (d n : ℕ) → d ≤ 1 → d ≤ n → isRead (directionOf d) && eqb n 0 ≡ false
+long-full : (d n : ℕ) → d ≤ 1 → d ≤ n → isRead (directionOf d) && eqb n 0 ≡ false
 long-full zero n p h = refl
 long-full (suc zero) zero p h = absurd (omega arith)
 long-full (suc zero) (suc n) p h = ne-eqb (suc n) 0 (λ e. absurd (omega arith))
@@ -65,9 +63,6 @@ module _ (l : List ℕ) (at : ℕ) where
     flaw-direction p = fine-first ∙ rw (lt-ltb 1 (getD l at 0) p)
 
     module _ (d n : ℕ) (ed : getD l at 0 ≡ d) (en : n ≡ wordOf (getD l (at + 1) 0) (getD l (at + 2) 0)) (p : d ≤ 1) where
-      filled : (b : Bool) → isRead (directionOf d) && eqb n 0 ≡ b → emptyRead (operationAt l at) ≡ b
-      filled b e = rw (ed, ← en) e
-
       pub flaw-empty : n < d → fine (drop at l) ≡ false
       flaw-empty q = fine-first ∙ rw (ed, le-ltb 1 d p, ← en) (rw (short-empty d n p q))
 
@@ -79,8 +74,8 @@ pub fine-direction : (l : List ℕ) (at : ℕ) → at + 3 ≤ length l → fine 
 fine-direction l at h e = go (ltb 1 (getD l at 0)) refl
   where
     go : (b : Bool) → ltb 1 (getD l at 0) ≡ b → getD l at 0 ≤ 1
-    go true q = absurd (true≢false (sym e ∙ flaw-direction l at h (borrow.Author.Tests.ltb-true 1 (getD l at 0) q)))
-    go false q = borrow.Author.Tests.ltb-false 1 (getD l at 0) q
+    go true q = absurd (true≢false (sym e ∙ flaw-direction l at h (ltb-true 1 (getD l at 0) q)))
+    go false q = ltb-false 1 (getD l at 0) q
 
 -- a list without a fault is good
 pub fault-free-fine : (l : List ℕ) (t : ℕ) → faultFrom t l ≡ none → fine l ≡ true

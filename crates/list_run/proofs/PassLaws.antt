@@ -6,22 +6,20 @@ use mathlib.Core.Bool.{Bool, true, false, not, true≢false}
 use mathlib.Core.List.{List, [], _∷_}
 use mathlib.Core.Logic.{_⊎_, ⊎-elim}
 use native.Mathlib.Nat.{add-zero}
-use native.Mathlib.Numerals.{add-one}
 use native.Mathlib.Omega.{arith}
 use borrow.Author.Tests.{leb-true, leb-false}
 use lib.Dec.{leb}
 use lib.ListN.{length, getD, drop}
 use Rattle.operations.specs.declared.operation.Direction.{Direction}
 use Rattle.operations.specs.declared.operation.Direction.the-variants.{Write, Read}
-use Rattle.operations.specs.declared.search.FoundRun.{FoundRun}
 use Rattle.operations.specs.declared.search.FoundRun.the-variants.{Nothing}
 use Rattle.operations.specs.Operations.{directionOf, wordOf, operationAt, operationsOf}
-use Rattle.operations.specs.Runs.{Span, span, writtenIn, readIn, writtenSum, readSum, runsFrom, runsOf, isEmpty, runFrom, runAt}
+use Rattle.operations.specs.Runs.{span, writtenIn, readIn, writtenSum, readSum, runsFrom, runsOf, isEmpty, runFrom, runAt}
 use Rattle.operations.proofs.ListLaws.{no-operation, operation-first}
 use Rattle.operations.proofs.RunLaws.{turned, opens, joins, ends-by-turn, ends-at-end, none-follows, some-follows}
 use Rattle.operations.proofs.SumLaws.{spanOf, eachSpan, written-runs, read-runs}
 use Rattle.list_run.specs.declared.runs.Place.{Place}
-use Rattle.list_run.specs.Passing.{fine, runsAfter, directionAt, nowhere, startPlace, addedTo, writtenTo, readTo, Listed, Reached, Starts, Opens, Next, Passes, NextOne, PassesOne, Ahead, Skips, Between, Summed, Rests}
+use Rattle.list_run.specs.Passing.{fine, runsAfter, nowhere, startPlace, addedTo, writtenTo, readTo, Listed, Reached, Starts, Opens, Next, Passes, NextOne, PassesOne, Ahead, Skips, Between, Rests}
 use Rattle.list_run.proofs.FineLaws.{fine-end, fine-part, fine-next, fine-direction, flaw-direction, flaw-empty}
 
 -- ---- within a run
@@ -58,10 +56,7 @@ run-begins l last p d s e q =
         ap runsOf (operation-first l (p .at) h) ∙ opens (operationAt l (p .at)) (operationsOf (drop (p .at + 3) l))
         ∙ (λ i. runsFrom (directionOf (e i)) 0 (sym (operation-first l (p .at) h) i))
 
-word-small : (a b : ℕ) → a < 256 → b < 256 → wordOf a b ≤ 65535
-word-small a b p q = omega arith
-
-pub both : (d : Direction) (w r n : ℕ) → w + writtenIn (span d n) + (r + readIn (span d n)) ≡ w + r + n
+both : (d : Direction) (w r n : ℕ) → w + writtenIn (span d n) + (r + readIn (span d n)) ≡ w + r + n
 both Write w r n = omega arith
 both Read w r n = omega arith
 

@@ -9,8 +9,8 @@ use crate::runs;
 pub struct Found {
     pub found: bool,
     pub reading: bool,
-    pub length: u16,
-    pub before: u16,
+    pub length: usize,
+    pub before: usize,
     pub more: bool,
 }
 
@@ -66,16 +66,16 @@ pub fn find(list: &[u8], written: usize, room: usize, number: u16) -> Found
         return Found {
             found: true,
             reading: true,
-            length: behind.sum as u16,
-            before: place.read as u16,
+            length: behind.sum as usize,
+            before: place.read as usize,
             more: behind.at <= last,
         };
     }
     Found {
         found: true,
         reading: false,
-        length: behind.sum as u16,
-        before: place.written as u16,
+        length: behind.sum as usize,
+        before: place.written as usize,
         more: behind.at <= last,
     }
 }

@@ -4,7 +4,7 @@ use Prim.Native.Nat.{ℕ}
 use mathlib.Core.Path.{_≡_, refl, sym, ap, _∙_}
 use mathlib.Core.Bool.{Bool, true, false, _&&_, true≢false}
 use mathlib.Core.List.{List}
-use mathlib.Core.Option.{Option, none, some}
+use mathlib.Core.Option.{none, some}
 use borrow.Author.Tests.{leb-true, leb-false, lt-ltb, le-ltb}
 use lib.Dec.{leb}
 use lib.ListN.{length}

@@ -27,7 +27,9 @@ pub fn transaction_step(
         if !found.found {
             return asked::refused();
         }
-        let here = here::here_by(found.reading, found.length, found.before, found.more, 0);
+        let length = found.length as u16;
+        let before = found.before as u16;
+        let here = here::here_by(found.reading, length, before, found.more, 0);
         return step::step_in(block, here, answer);
     }
     asked::refused()

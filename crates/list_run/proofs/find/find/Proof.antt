@@ -1,11 +1,10 @@
 -- `list_run::find::find` meets its contract: what is known at the places before the run, behind it and at the list's end is the answer.
 -- Assumes nothing.
 use borrow.Author.Needs.{needs}
-use mathlib.Core.Path.{refl}
 use native.Mathlib.Omega.{arith}
 use mathlib.Core.Bool.{true, false}
 use Rattle.list_run.proofs.PassLaws.{is-false, is-true, ahead-over, ahead-flawed, starts-at, reached-next}
-use Rattle.list_run.proofs.AnswerLaws.{not-found, short-list, rest-flawed, too-long, other-written, other-read, length-fits, written-fits, read-fits, answer}
+use Rattle.list_run.proofs.AnswerLaws.{not-found, short-list, rest-flawed, too-long, other-written, other-read, answer}
 use Rattle.list_run.proofs.find.find.Statement.{statement}
 use Rattle.list_run.proofs.find.find.Tie as tie
 
@@ -37,9 +36,9 @@ find-spec =
     (λ c. search needs)
     (λ c κs. search needs)
     (λ c. not-found _ _ _ _ _ (c .no-run9 .ensures) (λ n. other-read _ _ _ _ _ _ (c .before .before .before .before .before .before .before .before .before .before .before .before .before .before .before .before .before .skip .ensures .yes (is-true _ (c .before .before .before .before .before .before .before .before .before .before .before .before .before .before .before .if3 .left))) (c .before .before .before .before .before .before .before .before .before .before .before .before .pass .ensures .yes (is-true _ (c .before .before .before .before .before .before .before .before .before .before .if5 .left))) (c .before .before .before .before .before .before .before .before .before .rest .ensures .yes (is-true _ (c .before .before .before .before .before .before .before .if6 .left))) _ _ n (c .before .if9 .taken)))
-    (λ c. record { fits = length-fits _ _ _ _ _ _ (c .before .before .before .before .before .before .before .before .before .before .before .before .before .before .before .before .before .before .skip .ensures .yes (is-true _ (c .before .before .before .before .before .before .before .before .before .before .before .before .before .before .before .before .if3 .left))) (c .before .before .before .before .before .before .before .before .before .before .before .before .before .pass .ensures .yes (is-true _ (c .before .before .before .before .before .before .before .before .before .before .before .if5 .left))) (c .before .before .before .before .before .before .before .before .before .before .rest .ensures .yes (is-true _ (c .before .before .before .before .before .before .before .before .if6 .left))) (c .before .before .before .before .before .before .if7 .left) })
-    (λ c. record { fits = read-fits _ _ _ _ _ _ (c .before .before .before .before .before .before .before .before .before .before .before .before .before .before .before .before .before .before .before .skip .ensures .yes (is-true _ (c .before .before .before .before .before .before .before .before .before .before .before .before .before .before .before .before .before .if3 .left))) (c .before .before .before .before .before .before .before .before .before .before .before .before .before .before .pass .ensures .yes (is-true _ (c .before .before .before .before .before .before .before .before .before .before .before .before .if5 .left))) (c .before .before .before .before .before .before .before .before .before .before .before .rest .ensures .yes (is-true _ (c .before .before .before .before .before .before .before .before .before .if6 .left))) (c .before .before .before .before .before .before .before .if7 .left) })
+    (λ c. search needs)
+    (λ c. search needs)
     (λ c. answer _ _ _ _ _ _ (c .before .before .before .before .before .before .before .before .before .before .before .before .before .before .before .before .before .before .before .before .skip .ensures .yes (is-true _ (c .before .before .before .before .before .before .before .before .before .before .before .before .before .before .before .before .before .before .if3 .left))) (c .before .before .before .before .before .before .before .before .before .before .before .before .before .before .before .pass .ensures .yes (is-true _ (c .before .before .before .before .before .before .before .before .before .before .before .before .before .if5 .left))) (c .before .before .before .before .before .before .before .before .before .before .before .before .rest .ensures .yes (is-true _ (c .before .before .before .before .before .before .before .before .before .before .if6 .left))) _ _ true (c .before .before .before .if10 .taken) (c .before .before .before .before .before .before .before .before .if7 .left) (c .before .before .before .before .before .before .if8 .left) (c .before .before .before .before .if9 .left))
-    (λ c. record { fits = length-fits _ _ _ _ _ _ (c .before .before .before .before .before .before .before .before .before .before .before .before .before .before .before .before .before .before .skip .ensures .yes (is-true _ (c .before .before .before .before .before .before .before .before .before .before .before .before .before .before .before .before .if3 .left))) (c .before .before .before .before .before .before .before .before .before .before .before .before .before .pass .ensures .yes (is-true _ (c .before .before .before .before .before .before .before .before .before .before .before .if5 .left))) (c .before .before .before .before .before .before .before .before .before .before .rest .ensures .yes (is-true _ (c .before .before .before .before .before .before .before .before .if6 .left))) (c .before .before .before .before .before .before .if7 .left) })
-    (λ c. record { fits = written-fits _ _ _ _ _ _ (c .before .before .before .before .before .before .before .before .before .before .before .before .before .before .before .before .before .before .before .skip .ensures .yes (is-true _ (c .before .before .before .before .before .before .before .before .before .before .before .before .before .before .before .before .before .if3 .left))) (c .before .before .before .before .before .before .before .before .before .before .before .before .before .before .pass .ensures .yes (is-true _ (c .before .before .before .before .before .before .before .before .before .before .before .before .if5 .left))) (c .before .before .before .before .before .before .before .before .before .before .before .rest .ensures .yes (is-true _ (c .before .before .before .before .before .before .before .before .before .if6 .left))) (c .before .before .before .before .before .before .before .if7 .left) })
+    (λ c. search needs)
+    (λ c. search needs)
     (λ c. answer _ _ _ _ _ _ (c .before .before .before .before .before .before .before .before .before .before .before .before .before .before .before .before .before .before .before .before .skip .ensures .yes (is-true _ (c .before .before .before .before .before .before .before .before .before .before .before .before .before .before .before .before .before .before .if3 .left))) (c .before .before .before .before .before .before .before .before .before .before .before .before .before .before .before .pass .ensures .yes (is-true _ (c .before .before .before .before .before .before .before .before .before .before .before .before .before .if5 .left))) (c .before .before .before .before .before .before .before .before .before .before .before .before .rest .ensures .yes (is-true _ (c .before .before .before .before .before .before .before .before .before .before .if6 .left))) _ _ false (c .before .before .before .if10 .left) (c .before .before .before .before .before .before .before .before .if7 .left) (c .before .before .before .before .before .before .if8 .left) (c .before .before .before .before .if9 .left)))
