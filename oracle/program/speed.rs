@@ -63,14 +63,15 @@ fn side_named(name: &str) -> Option<Side> {
 /// A call with the accesses and answers of its good course.
 struct Course {
     name: String,
-    operations: usize,
+    /// Instructions for each access, at most.
+    goal: usize,
     call: Call,
     accesses: Vec<u32>,
     answers: Vec<u16>,
 }
 
 impl Course {
-    fn new(name: &str, call: Call) -> Self {
+    fn new(name: &str, goal: usize, call: Call) -> Self {
         let answers = MadeUp {
             mood: Mood::calm(u64::MAX),
             random: Random::of(&[1]),
@@ -84,7 +85,7 @@ impl Course {
         );
         Self {
             name: name.into(),
-            operations: (call.list.len() / 3).max(1),
+            goal,
             call,
             accesses: outcome.record.accesses,
             answers: outcome.record.answers,
@@ -132,6 +133,12 @@ fn alternating(count: usize) -> Call {
     transaction(0, &operations)
 }
 
+/// Of a list of two operations; and for each further one, that begins a run or goes on one.
+const LIST: usize = 240;
+const BEGINS: usize = 18;
+const GOES_ON: usize = 12;
+const SLAVE: usize = 90;
+
 fn courses() -> Vec<Course> {
     let call = |entry, written, read| {
         let mut call = Call::new(entry);
@@ -139,15 +146,15 @@ fn courses() -> Vec<Course> {
         call
     };
     vec![
-        Course::new("write, 1 byte", call(Entry::Write, 1, 0)),
-        Course::new("write-read, 2 + 6 bytes", call(Entry::WriteRead, 2, 6)),
-        Course::new("transaction, 2 operations, 2 runs", alternating(2)),
-        Course::new("transaction, 16 operations, 16 runs", alternating(16)),
-        Course::new("transaction, 256 operations, 256 runs", alternating(256)),
-        Course::new("transaction, 16 operations, 1 run", transaction(0, &[(false, 1); 16])),
-        Course::new("transaction, 256 operations, 1 run", transaction(0, &[(false, 1); 256])),
-        Course::new("slave receive, 8 bytes", call(Entry::RespondToWrite, 0, 8)),
-        Course::new("slave reply, 8 bytes", call(Entry::RespondToRead, 8, 0)),
+        Course::new("write, 1 byte", 150, call(Entry::Write, 1, 0)),
+        Course::new("write-read, 2 + 6 bytes", 175, call(Entry::WriteRead, 2, 6)),
+        Course::new("transaction, 2 operations, 2 runs", LIST, alternating(2)),
+        Course::new("transaction, 16 operations, 16 runs", LIST + 14 * BEGINS, alternating(16)),
+        Course::new("transaction, 256 operations, 256 runs", LIST + 254 * BEGINS, alternating(256)),
+        Course::new("transaction, 16 operations, 1 run", LIST + 14 * GOES_ON, transaction(0, &[(false, 1); 16])),
+        Course::new("transaction, 256 operations, 1 run", LIST + 254 * GOES_ON, transaction(0, &[(false, 1); 256])),
+        Course::new("slave receive, 8 bytes", SLAVE, call(Entry::RespondToWrite, 0, 8)),
+        Course::new("slave reply, 8 bytes", SLAVE, call(Entry::RespondToRead, 8, 0)),
     ]
 }
 
@@ -199,10 +206,6 @@ fn rate(side: Side, course: &Course) -> f64 {
     (times * course.accesses.len() as u64) as f64 / best.as_secs_f64() / 1e6
 }
 
-fn goal(operations: usize) -> usize {
-    200 + 12 * operations.saturating_sub(2)
-}
-
 fn table() {
     println!(
         "Instructions for each access, by callgrind: inside the C library's functions, and inside the Rust without the"
@@ -218,7 +221,7 @@ fn table() {
             course.accesses.len(),
             rust_instructions(index, course),
             library_instructions(index, course),
-            goal(course.operations),
+            course.goal,
             rate(Side::Rust, course),
             rate(Side::Library, course)
         );
