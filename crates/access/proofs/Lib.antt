@@ -3,4 +3,3 @@ pub mod NumberLaws
 pub mod Agreement
 pub mod Secrecy
 pub mod Example
-pub mod TakenLaws

@@ -1,9 +1,9 @@
 -- How a call ends, and document 01's number for it.
-use Prim.Native.Nat.{ℕ, _*_}
+use Prim.Native.Nat.{ℕ, _+_, _*_}
 use mathlib.Core.Bool.{Bool, false, cond}
 use lib.Dec.{eqb, leb}
 use Rattle.access.specs.declared.ending.Error.{Error}
-use Rattle.access.specs.declared.ending.Error.the-variants.{Bus, Arbitration, Nack, Timeout, Crc, Overrun, BufferTooLong, InvalidAddress, InvalidFrequency, DividerTooLarge, InputTooSlow, TooManyOperations, LengthMismatch, InvalidState, InvalidArgument}
+use Rattle.access.specs.declared.ending.Error.the-variants.{Bus, Arbitration, Nack, Timeout, Crc, Overrun, BufferTooLong, InvalidAddress, InvalidFrequency, DividerTooLarge, InputTooSlow, TooManyOperations, LengthMismatch, InvalidState, InvalidArgument, ReservedAddress, BlockLength, WrongCode, NoSuchSpeed, NoAllowance, TooManyBuses, TooManyItems, NoOrder, NoSuchDate, WrongDate, MapLength}
 use Rattle.access.specs.declared.ending.Failure.{Failure}
 use Rattle.access.specs.declared.ending.Ending.{Ending}
 use Rattle.access.specs.declared.ending.Ending.the-variants.{Done, Failed}
@@ -24,6 +24,17 @@ errorNumber TooManyOperations = 13
 errorNumber LengthMismatch = 14
 errorNumber InvalidState = 15
 errorNumber InvalidArgument = 16
+errorNumber ReservedAddress = 17
+errorNumber BlockLength = 18
+errorNumber WrongCode = 19
+errorNumber NoSuchSpeed = 20
+errorNumber NoAllowance = 21
+errorNumber TooManyBuses = 22
+errorNumber TooManyItems = 23
+errorNumber NoOrder = 24
+errorNumber NoSuchDate = 25
+errorNumber WrongDate = 26
+errorNumber MapLength = 27
 
 abbrev pub failureOf : Error → Failure
 failureOf e = record { error = e }
@@ -38,10 +49,18 @@ done = returned 0
 abbrev pub failed : Error → Ending
 failed e = Failed (failureOf e)
 
--- what C sees of an ending: its number in bits 8 to 15, 0 for done, and what is returned in bits 16 to 31
+-- AN END IN WORDS, for C's number and for the block of a call: the number of its error, or 0, and the value that it returns
+abbrev pub endingError : Ending → ℕ
+endingError (Done o) = 0
+endingError (Failed f) = errorNumber (f .error)
+
+abbrev pub endingValue : Ending → ℕ
+endingValue (Done o) = o .value
+endingValue (Failed f) = 0
+
+-- what C sees of it: the number in bits 8 to 15, the value in bits 16 to 31
 abbrev pub endingNumber : Ending → ℕ
-endingNumber (Done o) = o .value * 65536
-endingNumber (Failed f) = errorNumber (f .error) * 256
+endingNumber e = endingError e * 256 + endingValue e * 65536
 
 -- the error of a number, and the ending of a number and a value
 abbrev pub errorOf : ℕ → Error
@@ -59,7 +78,18 @@ errorOf n =
     (cond (eqb n 12) InputTooSlow
     (cond (eqb n 13) TooManyOperations
     (cond (eqb n 14) LengthMismatch
-    (cond (eqb n 15) InvalidState InvalidArgument)))))))))))))
+    (cond (eqb n 15) InvalidState
+    (cond (eqb n 16) InvalidArgument
+    (cond (eqb n 17) ReservedAddress
+    (cond (eqb n 18) BlockLength
+    (cond (eqb n 19) WrongCode
+    (cond (eqb n 20) NoSuchSpeed
+    (cond (eqb n 21) NoAllowance
+    (cond (eqb n 22) TooManyBuses
+    (cond (eqb n 23) TooManyItems
+    (cond (eqb n 24) NoOrder
+    (cond (eqb n 25) NoSuchDate
+    (cond (eqb n 26) WrongDate MapLength))))))))))))))))))))))))
 
 abbrev pub endingOf : ℕ → ℕ → Ending
 endingOf n v = cond (eqb n 0) (returned v) (failed (errorOf n))

@@ -80,13 +80,3 @@ stepState m s a = cond (isEnd (m .need s)) s (m .move s a)
 
 abbrev pub stepNext : (m : Machine) → List ℕ → m .State → ℕ → Next
 stepNext m bytes s a = cond (isEnd (m .need s)) (next.End (failed InvalidState)) (filled bytes (m .need (m .move s a)))
-
--- what matters of a need once it has its answer: where a byte is kept, and the end
-abbrev pub taken : Need → Need
-taken (need.Read r) = need.Clock
-taken (need.Write r v) = need.Clock
-taken need.Clock = need.Clock
-taken (need.Send p) = need.Clock
-taken (need.Keep p) = need.Keep p
-taken need.Drop = need.Clock
-taken (need.End e) = need.End e

@@ -1,9 +1,10 @@
 // How a call ends.
 ghost use mathlib.Core.Path.{_≡_};
 ghost use Rattle.access.specs.Numbers.{EndHoldsWords};
-ghost use Rattle.access.specs.Endings.{errorNumber, endingNumber, failureOf, done, returned, failed, isMet, hasFailed, isDone};
+ghost use Rattle.access.specs.Endings.{errorNumber, endingError, endingValue, endingNumber, errorOf, endingOf, failureOf, done, returned, failed, isMet, hasFailed, isDone};
 
-// The Rust's `Error`, and behind it the refusals that the port adds. (The Rust's `ZeroLengthTransfer`, 7, is never given.)
+// The Rust's `Error`, and behind it the refusals that the port adds, 17 to 27 for calls beside the Rust's. (The Rust's
+// `ZeroLengthTransfer`, 7, is never given.)
 pub enum Error {
     Bus,
     Arbitration,
@@ -20,6 +21,17 @@ pub enum Error {
     LengthMismatch,
     InvalidState,
     InvalidArgument,
+    ReservedAddress,
+    BlockLength,
+    WrongCode,
+    NoSuchSpeed,
+    NoAllowance,
+    TooManyBuses,
+    TooManyItems,
+    NoOrder,
+    NoSuchDate,
+    WrongDate,
+    MapLength,
 }
 
 // What is known of an error.
@@ -56,6 +68,41 @@ pub fn error_number(error: Error) -> u8
         Error::LengthMismatch => 14,
         Error::InvalidState => 15,
         Error::InvalidArgument => 16,
+        Error::ReservedAddress => 17,
+        Error::BlockLength => 18,
+        Error::WrongCode => 19,
+        Error::NoSuchSpeed => 20,
+        Error::NoAllowance => 21,
+        Error::TooManyBuses => 22,
+        Error::TooManyItems => 23,
+        Error::NoOrder => 24,
+        Error::NoSuchDate => 25,
+        Error::WrongDate => 26,
+        Error::MapLength => 27,
+    }
+}
+
+// The number of the error, or 0.
+pub fn ending_error(ending: Ending) -> u8
+    ensures { λ r. ⌜ r ≡ endingError ending ⌝ }
+{
+    match ending {
+        Ending::Done(_) => 0,
+        Ending::Failed(failure) => {
+            let error = failure.error;
+            error_number(error)
+        }
+    }
+}
+
+// What is returned.
+pub fn ending_value(ending: Ending) -> u16
+    ensures { λ r. ⌜ r ≡ endingValue ending ⌝ }
+    ensures { λ _. ⌜ EndHoldsWords ending ⌝ }
+{
+    match ending {
+        Ending::Done(outcome) => outcome.value,
+        Ending::Failed(_) => 0,
     }
 }
 
@@ -64,12 +111,51 @@ pub fn ending_number(ending: Ending) -> u64
     ensures { λ r. ⌜ r ≡ endingNumber ending ⌝ }
     ensures { λ _. ⌜ EndHoldsWords ending ⌝ }
 {
-    match ending {
-        Ending::Done(outcome) => outcome.value as u64 * 65536,
-        Ending::Failed(failure) => {
-            let error = failure.error;
-            error_number(error) as u64 * 256
-        }
+    ending_error(ending) as u64 * 256 + ending_value(ending) as u64 * 65536
+}
+
+// The error of a number.
+fn error_of(number: u8) -> Error
+    ensures { λ r. ⌜ r ≡ errorOf number ⌝ }
+{
+    match number {
+        1 => Error::Bus,
+        2 => Error::Arbitration,
+        3 => Error::Nack,
+        4 => Error::Timeout,
+        5 => Error::Crc,
+        6 => Error::Overrun,
+        8 => Error::BufferTooLong,
+        9 => Error::InvalidAddress,
+        10 => Error::InvalidFrequency,
+        11 => Error::DividerTooLarge,
+        12 => Error::InputTooSlow,
+        13 => Error::TooManyOperations,
+        14 => Error::LengthMismatch,
+        15 => Error::InvalidState,
+        16 => Error::InvalidArgument,
+        17 => Error::ReservedAddress,
+        18 => Error::BlockLength,
+        19 => Error::WrongCode,
+        20 => Error::NoSuchSpeed,
+        21 => Error::NoAllowance,
+        22 => Error::TooManyBuses,
+        23 => Error::TooManyItems,
+        24 => Error::NoOrder,
+        25 => Error::NoSuchDate,
+        26 => Error::WrongDate,
+        _ => Error::MapLength,
+    }
+}
+
+// The ending of a number and a value.
+pub fn ending_of(error: u8, value: u16) -> Ending
+    ensures { λ r. ⌜ r ≡ endingOf error value ⌝ }
+{
+    if error == 0 {
+        returned(value)
+    } else {
+        failed(error_of(error))
     }
 }
 

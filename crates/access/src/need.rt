@@ -1,6 +1,6 @@
 // What a machine's state needs next, with no payload in it: `fill` and `keep` are where payload enters and leaves.
 ghost use mathlib.Core.Path.{_≡_};
-ghost use Rattle.access.specs.Machine.{filled, kept, isEnd, taken};
+ghost use Rattle.access.specs.Machine.{filled, kept, isEnd};
 use crate::ending::Ending;
 use crate::lent;
 use crate::next::Next;
@@ -60,20 +60,5 @@ pub fn is_end(need: Need) -> bool
         Need::Keep(_) => false,
         Need::Drop => false,
         Need::End(_) => true,
-    }
-}
-
-// What matters of a need once it has its answer: where a byte is kept, and the end.
-pub fn taken(need: Need) -> Need
-    ensures { λ r. ⌜ r ≡ taken need ⌝ }
-{
-    match need {
-        Need::Read(_) => Need::Clock,
-        Need::Write(_, _) => Need::Clock,
-        Need::Clock => Need::Clock,
-        Need::Send(_) => Need::Clock,
-        Need::Keep(place) => Need::Keep(place),
-        Need::Drop => Need::Clock,
-        Need::End(ending) => Need::End(ending),
     }
 }

@@ -7,8 +7,7 @@ use mathlib.Core.List.{List}
 use native.Mathlib.Omega.{arith}
 use lib.ListN.{getD}
 use Rattle.registers.specs.declared.register.Register.the-variants.{Datar}
-use Rattle.access.specs.Endings.{hasFailed}
-use Rattle.images.specs.Numbers.{endingError}
+use Rattle.access.specs.Endings.{hasFailed, endingError}
 use Rattle.access.specs.declared.ending.Ending.{Ending}
 use Rattle.access.specs.declared.ending.Ending.the-variants.{Done, Failed}
 use Rattle.access.specs.declared.need.Need.the-variants.{Read, Write, Clock, Send, Keep, Drop, End}
@@ -52,4 +51,4 @@ comes n m w h e q (End (Failed f)) a = let k = a .number in absurd (omega arith)
 -- the number of an error that was met
 pub met : (e : Ending) (n m : ℕ) → n ≡ m * 256 → hasFailed e ≡ true → m ≡ endingError e → Asks n (End e)
 met (Done o) n m q h e = absurd (true≢false (sym h))
-met (Failed f) n m q h e = record { number = q ∙ ap (λ (x : ℕ). x * 256) e; words = tt }
+met (Failed f) n m q h e = record { number = omega (arith, q, e); words = tt }

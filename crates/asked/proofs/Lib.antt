@@ -1,2 +1,3 @@
 pub mod FillLaws
 pub mod KeptLaws
+pub mod NeedLaws

@@ -1,12 +1,13 @@
 -- What is asked for next, as a number: C's, but for a byte to send, to keep or to drop, which have kinds of their own.
 use mathlib.Core.Path.{_≡_}
-use mathlib.Core.Bool.{Bool, true, false}
+use mathlib.Core.Bool.{Bool, true, false, cond}
+use lib.Dec.{eqb}
 use mathlib.Core.List.{List}
-use Prim.Native.Nat.{ℕ, _+_, _*_, _<_}
-use Rattle.registers.specs.Numbers.{registerNumber}
+use Prim.Native.Nat.{ℕ, _+_, _*_, _/_, _%_, _<_}
+use Rattle.registers.specs.Numbers.{registerNumber, registerOf}
 use Rattle.access.specs.declared.need.Need.{Need}
 use Rattle.access.specs.declared.need.Need.the-variants.{Read, Write, Clock, Send, Keep, Drop, End}
-use Rattle.access.specs.Endings.{endingNumber}
+use Rattle.access.specs.Endings.{endingNumber, endingOf}
 use Rattle.access.specs.Numbers.{nextNumber, HoldsWords, EndHoldsWords}
 use Rattle.access.specs.Machine.{filled}
 
@@ -19,13 +20,23 @@ needNumber (Keep p) = 5 + p * 65536
 needNumber Drop = 6
 needNumber (End e) = endingNumber e
 
--- the values are 16-bit words, as they are in the code
+-- taken apart again
+abbrev pub needOf : ℕ → Need
+needOf n =
+    cond (eqb (n % 256) 0) (End (endingOf (n / 256 % 256) (n / 65536 % 65536)))
+    (cond (eqb (n % 256) 1) (Read (registerOf (n / 256 % 256)))
+    (cond (eqb (n % 256) 2) (Write (registerOf (n / 256 % 256)) (n / 65536 % 65536))
+    (cond (eqb (n % 256) 3) Clock
+    (cond (eqb (n % 256) 4) (Send (n / 65536 % 4294967296))
+    (cond (eqb (n % 256) 5) (Keep (n / 65536 % 4294967296)) Drop)))))
+
+-- the values are 16-bit words and the places 32-bit ones, as they are in the code
 abbrev pub NeedHoldsWords : Need → Type 0
 NeedHoldsWords (Read r) = Unit {0}
 NeedHoldsWords (Write r v) = v < 65536
 NeedHoldsWords Clock = Unit {0}
-NeedHoldsWords (Send p) = Unit {0}
-NeedHoldsWords (Keep p) = Unit {0}
+NeedHoldsWords (Send p) = p < 4294967296
+NeedHoldsWords (Keep p) = p < 4294967296
 NeedHoldsWords Drop = Unit {0}
 NeedHoldsWords (End e) = EndHoldsWords e
 

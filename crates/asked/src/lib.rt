@@ -6,9 +6,11 @@ ghost use lib.ListN.{getD};
 ghost use Rattle.access.specs.declared.ending.Error.the-variants.{InvalidState};
 ghost use Rattle.access.specs.declared.need.Need.the-variants as need;
 ghost use Rattle.access.specs.declared.ending.Ending.{Ending};
-ghost use Rattle.access.specs.Endings.{done, returned, failed, hasFailed};
-ghost use Rattle.images.specs.Numbers.{endingError};
-ghost use Rattle.asked.specs.Asked.{Asks, Fills};
+ghost use Rattle.access.specs.Endings.{done, returned, failed, hasFailed, endingError};
+ghost use Rattle.asked.specs.Asked.{Asks, Fills, needOf};
+use access::Error;
+use access::Need;
+use access::ending;
 use registers::Register;
 use registers::register;
 
@@ -92,6 +94,13 @@ pub fn failed(error: u8) -> u64
     error as u64 * 256
 }
 
+// The call is refused with this error.
+pub fn refusal(error: Error) -> u64
+    ensures { λ r. ⌜ Asks r (need.End (failed error)) ⌝ }
+{
+    ending::error_number(error) as u64 * 256
+}
+
 // A refused step: nothing is written, and the number is 15's.
 pub fn refused() -> u64
     ensures { λ r. ⌜ Asks r (need.End (failed InvalidState)) ⌝ }
@@ -118,4 +127,22 @@ pub fn fill(asked: u64, written: &[u8]) -> u64
         return write(Register::Datar, byte as u16);
     }
     read(Register::Datar)
+}
+
+// What a number asks for.
+pub fn need_of(asked: u64) -> Need
+    ensures { λ r. ⌜ r ≡ needOf asked ⌝ }
+{
+    let code = (asked / 256 % 256) as u8;
+    let value = (asked / 65536 % 65536) as u16;
+    let place = (asked / 65536 % 4294967296) as u32;
+    match asked % 256 {
+        0 => Need::End(ending::ending_of(code, value)),
+        1 => Need::Read(register::of_number(code)),
+        2 => Need::Write(register::of_number(code), value),
+        3 => Need::Clock,
+        4 => Need::Send(place),
+        5 => Need::Keep(place),
+        _ => Need::Drop,
+    }
 }

@@ -6,14 +6,13 @@ use lib.Dec.{ltb}
 use lib.ListN.{length, getD, take}
 use Rattle.access.specs.declared.next.Next.{Next}
 use Rattle.access.specs.declared.next.Next.the-variants.{Read, Write, Clock, End}
-use Rattle.access.specs.Endings.{failed}
+use Rattle.access.specs.Endings.{failed, endingError}
 use Rattle.access.specs.Record.{isData}
 use Rattle.master.specs.declared.state.Stepped.{Stepped}
 use Rattle.master.specs.declared.state.Begun.{Begun}
 use Rattle.master.specs.declared.state.Begun.the-variants.{Accepted, Refused}
 use Rattle.master.specs.Calls.{lentWith}
 use Rattle.master.specs.Steps.{step, stepRead}
-use Rattle.images.specs.Numbers.{endingError}
 use Rattle.bench_text.specs.Shown.{readText, writeText, clockText, arrivedText, endText, openText}
 
 -- how many answers an access takes, and how many bytes arrive with it

@@ -23,8 +23,8 @@ fieldsOf b =
       option = getD b 2 0;
       stage = getD b 3 0;
       what = getD b 4 0;
-      part = getD b 5 0;
-      flags = getD b 6 0;
+      phase = getD b 5 0;
+      marks = getD b 6 0;
       error = getD b 7 0;
       address = wordAt b 8;
       run = wordAt b 10;
@@ -48,8 +48,8 @@ bytesOf f =
     ∷ f .option
     ∷ f .stage
     ∷ f .what
-    ∷ f .part
-    ∷ f .flags
+    ∷ f .phase
+    ∷ f .marks
     ∷ f .error
     ∷ f .address % 256 ∷ f .address / 256
     ∷ f .run % 256 ∷ f .run / 256

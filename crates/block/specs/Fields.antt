@@ -8,7 +8,7 @@ module _ (a b : Fields) where
   sameCall = eqb (a .entry) (b .entry) && (eqb (a .chip) (b .chip) && (eqb (a .option) (b .option)))
 
   abbrev pub sameStage : Bool
-  sameStage = eqb (a .stage) (b .stage) && (eqb (a .what) (b .what) && (eqb (a .part) (b .part)))
+  sameStage = eqb (a .stage) (b .stage) && (eqb (a .what) (b .what) && (eqb (a .phase) (b .phase)))
 
   abbrev pub sameEnding : Bool
   sameEnding = eqb (a .error) (b .error) && (eqb (a .value) (b .value))
@@ -20,7 +20,7 @@ module _ (a b : Fields) where
   sameWords = eqb (a .word) (b .word) && (eqb (a .divider) (b .divider) && (eqb (a .rise) (b .rise)))
 
   abbrev pub sameRest : Bool
-  sameRest = eqb (a .flags) (b .flags) && (eqb (a .address) (b .address) && (eqb (a .count) (b .count)))
+  sameRest = eqb (a .marks) (b .marks) && (eqb (a .address) (b .address) && (eqb (a .count) (b .count)))
 
   abbrev pub sameExtras : Bool
   sameExtras = eqb (a .second) (b .second) && (eqb (a .mhz) (b .mhz) && (eqb (a .unused) (b .unused)))

@@ -8,12 +8,12 @@ pub struct Fields {
     pub chip: u8,
     // A frame's option.
     pub option: u8,
-    // The access that is owed: its group, which of the group's, and its part.
+    // The access that is owed: its group, which of the group's, and its phase.
     pub stage: u8,
     pub what: u8,
-    pub part: u8,
+    pub phase: u8,
     // A direction, or settings that are true or false.
-    pub flags: u8,
+    pub marks: u8,
     // How the call is to end: the error's number and the value returned, here and in `value`.
     pub error: u8,
     pub address: u16,
@@ -44,7 +44,7 @@ fn same_call(a: Fields, b: Fields) -> bool
 fn same_stage(a: Fields, b: Fields) -> bool
     ensures { λ r. ⌜ r ≡ sameStage a b ⌝ }
 {
-    (a.stage == b.stage) & ((a.what == b.what) & (a.part == b.part))
+    (a.stage == b.stage) & ((a.what == b.what) & (a.phase == b.phase))
 }
 
 fn same_ending(a: Fields, b: Fields) -> bool
@@ -68,7 +68,7 @@ fn same_words(a: Fields, b: Fields) -> bool
 fn same_rest(a: Fields, b: Fields) -> bool
     ensures { λ r. ⌜ r ≡ sameRest a b ⌝ }
 {
-    (a.flags == b.flags) & ((a.address == b.address) & (a.count == b.count))
+    (a.marks == b.marks) & ((a.address == b.address) & (a.count == b.count))
 }
 
 fn same_extras(a: Fields, b: Fields) -> bool

@@ -123,7 +123,7 @@ pub extern "C" fn ch32_i2c_transaction_step(
     if block.len() != bytes32::BLOCK_SIZE {
         return left::refusal(Error::InvalidState);
     }
-    let kept = keep::is_kept(block[put::GROUP], block[put::PART]);
+    let kept = keep::is_kept(block[put::GROUP], block[put::PHASE]);
     let place = put::word_at(block, put::PLACE);
     let asked = transaction::transaction_step(block, list, written.len(), read.len(), answer);
     keep(kept, place, asked, read, answer);
@@ -163,7 +163,7 @@ pub extern "C" fn ch32_i2c_write_read_step(
     if block.len() != bytes32::BLOCK_SIZE {
         return left::refusal(Error::InvalidState);
     }
-    let kept = keep::is_kept(block[put::GROUP], block[put::PART]);
+    let kept = keep::is_kept(block[put::GROUP], block[put::PHASE]);
     let place = put::word_at(block, put::PLACE);
     let asked = write_read::write_read_step(block, written.len(), read.len(), answer);
     keep(kept, place, asked, read, answer);
@@ -239,7 +239,7 @@ pub extern "C" fn ch32_i2c_read_step(block: &mut [u8], read: &mut [u8], answer: 
     if block.len() != bytes32::BLOCK_SIZE {
         return left::refusal(Error::InvalidState);
     }
-    let kept = keep::is_kept(block[put::GROUP], block[put::PART]);
+    let kept = keep::is_kept(block[put::GROUP], block[put::PHASE]);
     let place = put::word_at(block, put::PLACE);
     let asked = frame::read_step(block, read.len(), answer);
     keep(kept, place, asked, read, answer);

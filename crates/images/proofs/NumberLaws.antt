@@ -3,12 +3,7 @@
 use mathlib.Core.Path.{_≡_, refl}
 use mathlib.Core.Bool.{Bool, true, false}
 use Rattle.registers.specs.declared.chip.Chip.{Chip}
-use Rattle.access.specs.declared.ending.Error.{Error}
-use Rattle.access.specs.declared.ending.Error.the-variants as error
-use Rattle.access.specs.declared.ending.Ending.{Ending}
-use Rattle.access.specs.declared.ending.Ending.the-variants.{Done, Failed}
-use Rattle.access.specs.Endings.{errorNumber, failed, endingOf}
-use Rattle.images.specs.Numbers.{flagsNumber, flagAt, chipNumber, chipOf, endingError, endingValue}
+use Rattle.images.specs.Numbers.{flagsNumber, flagAt, chipNumber, chipOf}
 
 pub record Flags (a b c d : Bool) : Type 0 where
   pub one : flagAt 1 (flagsNumber a b c d) ≡ a
@@ -36,24 +31,3 @@ flags-back false false false false = record { one = refl; two = refl; four = ref
 
 pub chip-back : (c : Chip) → chipOf (chipNumber c) ≡ c
 chip-back c = let f = flags-back (c .«i2c_v3») (c .ch32v4) false false in rw (f .one, f .two)
-
-error-back : (e : Error) → endingOf (errorNumber e) 0 ≡ failed e
-error-back error.Bus = refl
-error-back error.Arbitration = refl
-error-back error.Nack = refl
-error-back error.Timeout = refl
-error-back error.Crc = refl
-error-back error.Overrun = refl
-error-back error.BufferTooLong = refl
-error-back error.InvalidAddress = refl
-error-back error.InvalidFrequency = refl
-error-back error.DividerTooLarge = refl
-error-back error.InputTooSlow = refl
-error-back error.TooManyOperations = refl
-error-back error.LengthMismatch = refl
-error-back error.InvalidState = refl
-error-back error.InvalidArgument = refl
-
-pub ending-back : (e : Ending) → endingOf (endingError e) (endingValue e) ≡ e
-ending-back (Done o) = refl
-ending-back (Failed f) = error-back (f .error)

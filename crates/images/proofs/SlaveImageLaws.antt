@@ -9,7 +9,8 @@ use Rattle.slave.specs.declared.state.Kind.the-variants as kind
 use Rattle.slave.specs.declared.state.State.{State}
 use Rattle.images.specs.declared.slave_image.SlaveFound.the-variants.{At, Nothing}
 use Rattle.images.specs.SlaveImage.{kindEntry, kindOf, slaveFields, slaveOf, slaveIn}
-use Rattle.images.proofs.NumberLaws.{chip-back, ending-back}
+use Rattle.images.proofs.NumberLaws.{chip-back}
+use Rattle.access.proofs.NumberLaws.{ending-back}
 use Rattle.stage_numbers.proofs.SlaveStageLaws.{stage-back}
 use Rattle.images.proofs.Found.{found-state, found-image}
 

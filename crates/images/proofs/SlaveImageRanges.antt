@@ -17,22 +17,22 @@ pub kind-range : (n : ℕ) → n < 256 → isKind n ≡ ltb 6 n && ltb n 10
 unfolding isKind
 kind-range = bytes (λ n. ltb 6 n && ltb n 10) isKind refl
 
-pub image-ranges : (f : Fields) → sameFields (slaveFields (slaveOf f)) f ≡ isCall f && (isStage (f .stage) (f .what) (f .part) && isEnding (f .error) (f .value))
+pub image-ranges : (f : Fields) → sameFields (slaveFields (slaveOf f)) f ≡ isCall f && (isStage (f .stage) (f .what) (f .phase) && isEnding (f .error) (f .value))
 unfolding sameFields slaveFields slaveOf isCall isKind isChip isStage isEnding unusedEmpty
 image-ranges f =
-    rw (itself (f .word), itself (f .count), turned 0 (f .option), turned 0 (f .run), turned 0 (f .left), turned 0 (f .place), turned 0 (f .divider), turned 0 (f .rise), turned 0 (f .flags), turned 0 (f .address), turned 0 (f .second), turned 0 (f .mhz), turned 0 (f .unused), with-true (eqb (f .address) 0))
-    (reordered (isKind (f .entry)) (eqb (f .option) 0) (isChip (f .chip)) (isStage (f .stage) (f .what) (f .part)) (isEnding (f .error) (f .value)) (unusedEmpty f))
+    rw (itself (f .word), itself (f .count), turned 0 (f .option), turned 0 (f .run), turned 0 (f .left), turned 0 (f .place), turned 0 (f .divider), turned 0 (f .rise), turned 0 (f .marks), turned 0 (f .address), turned 0 (f .second), turned 0 (f .mhz), turned 0 (f .unused), with-true (eqb (f .address) 0))
+    (reordered (isKind (f .entry)) (eqb (f .option) 0) (isChip (f .chip)) (isStage (f .stage) (f .what) (f .phase)) (isEnding (f .error) (f .value)) (unusedEmpty f))
 
 -- what is found by the tests, one after the other
-pub found : (f : Fields) → isCall f ≡ true → isStage (f .stage) (f .what) (f .part) ≡ true → isEnding (f .error) (f .value) ≡ true → At (slaveOf f) ≡ slaveIn f
+pub found : (f : Fields) → isCall f ≡ true → isStage (f .stage) (f .what) (f .phase) ≡ true → isEnding (f .error) (f .value) ≡ true → At (slaveOf f) ≡ slaveIn f
 unfolding slaveIn
 found f c s e = rw (image-ranges f, c, s, e)
 
-pub no-ending : (f : Fields) → isCall f ≡ true → isStage (f .stage) (f .what) (f .part) ≡ true → isEnding (f .error) (f .value) ≡ false → Nothing ≡ slaveIn f
+pub no-ending : (f : Fields) → isCall f ≡ true → isStage (f .stage) (f .what) (f .phase) ≡ true → isEnding (f .error) (f .value) ≡ false → Nothing ≡ slaveIn f
 unfolding slaveIn
 no-ending f c s e = rw (image-ranges f, c, s, e)
 
-pub no-stage : (f : Fields) → isCall f ≡ true → isStage (f .stage) (f .what) (f .part) ≡ false → Nothing ≡ slaveIn f
+pub no-stage : (f : Fields) → isCall f ≡ true → isStage (f .stage) (f .what) (f .phase) ≡ false → Nothing ≡ slaveIn f
 unfolding slaveIn
 no-stage f c s = rw (image-ranges f, c, s)
 

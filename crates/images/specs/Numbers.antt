@@ -3,9 +3,7 @@ use Prim.Native.Nat.{ℕ, _+_, _*_, _/_, _%_}
 use mathlib.Core.Bool.{Bool, false, cond, _&&_}
 use lib.Dec.{eqb}
 use Rattle.registers.specs.declared.chip.Chip.{Chip}
-use Rattle.access.specs.declared.ending.Ending.{Ending}
-use Rattle.access.specs.declared.ending.Ending.the-variants.{Done, Failed}
-use Rattle.access.specs.Endings.{errorNumber, endingOf}
+use Rattle.access.specs.Endings.{endingError, endingValue, endingOf}
 
 -- the entries, in the order of the C header
 abbrev pub initEntry : ℕ
@@ -59,14 +57,6 @@ chipOf n = record { «i2c_v3» = flagAt 1 n; ch32v4 = flagAt 2 n }
 unfoldable pub isChip : ℕ → Bool
 isChip n = eqb (chipNumber (chipOf n)) n
 
--- how a call is to end: the number of its error, or 0, and the value that it returns
-abbrev pub endingError : Ending → ℕ
-endingError (Done o) = 0
-endingError (Failed f) = errorNumber (f .error)
-
-abbrev pub endingValue : Ending → ℕ
-endingValue (Done o) = o .value
-endingValue (Failed f) = 0
-
+-- the number and the value of an ending
 unfoldable pub isEnding : ℕ → ℕ → Bool
 isEnding n v = eqb (endingError (endingOf n v)) n && eqb (endingValue (endingOf n v)) v

@@ -112,7 +112,7 @@ pub fn init_slave_fields(s: InitState) -> Fields
     let address = config.address;
     let second = config.second_address;
     let stage = s.stage;
-    let flags = numbers::flags_number(
+    let marks = numbers::flags_number(
         is_ten(address),
         has_second(second),
         config.general_call,
@@ -124,8 +124,8 @@ pub fn init_slave_fields(s: InitState) -> Fields
         option: 0,
         stage: init_stage_number(stage),
         what: 0,
-        part: 0,
-        flags,
+        phase: 0,
+        marks,
         error: 0,
         address: address_word(address),
         run: 0,
@@ -146,15 +146,15 @@ pub fn init_slave_fields(s: InitState) -> Fields
 fn init_slave_of(f: Fields) -> InitState
     ensures { λ r. ⌜ r ≡ initSlaveOf f ⌝ }
 {
-    let address = address_of(numbers::flag_at(1, f.flags), f.address);
-    let second = second_of(numbers::flag_at(2, f.flags), f.second);
+    let address = address_of(numbers::flag_at(1, f.marks), f.address);
+    let second = second_of(numbers::flag_at(2, f.marks), f.second);
     let stage = init_stage_of(f.stage);
     InitState {
         config: SlaveConfig {
             address,
             second_address: second,
-            general_call: numbers::flag_at(4, f.flags),
-            clock_stretching: numbers::flag_at(8, f.flags),
+            general_call: numbers::flag_at(4, f.marks),
+            clock_stretching: numbers::flag_at(8, f.marks),
         },
         stage,
         saved: f.word,

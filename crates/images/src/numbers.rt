@@ -1,10 +1,7 @@
 // Numbers that the blocks of several calls share: the entry, the chip, flags, and how a call is to end.
 ghost use mathlib.Core.Path.{_≡_};
 ghost use Prim.Native.Nat.{_≤_, _<_};
-ghost use Rattle.access.specs.Endings.{errorOf, endingOf};
-ghost use Rattle.images.specs.Numbers.{flagNumber, flagsNumber, flagAt, isFlag, chipNumber, chipOf, isChip, endingError, endingValue, isEnding};
-use access::Ending;
-use access::Error;
+ghost use Rattle.images.specs.Numbers.{flagNumber, flagsNumber, flagAt, isFlag, chipNumber, chipOf, isChip, isEnding};
 use registers::Chip;
 
 // The entries, in the order of the C header.
@@ -76,60 +73,6 @@ pub fn is_chip(number: u8) -> bool
     number < 4
 }
 
-fn error_of(number: u8) -> Error
-    ensures { λ r. ⌜ r ≡ errorOf number ⌝ }
-{
-    match number {
-        1 => Error::Bus,
-        2 => Error::Arbitration,
-        3 => Error::Nack,
-        4 => Error::Timeout,
-        5 => Error::Crc,
-        6 => Error::Overrun,
-        8 => Error::BufferTooLong,
-        9 => Error::InvalidAddress,
-        10 => Error::InvalidFrequency,
-        11 => Error::DividerTooLarge,
-        12 => Error::InputTooSlow,
-        13 => Error::TooManyOperations,
-        14 => Error::LengthMismatch,
-        15 => Error::InvalidState,
-        _ => Error::InvalidArgument,
-    }
-}
-
-// How a call is to end: the number of its error, or 0, and the value that it returns.
-pub fn ending_error(ending: Ending) -> u8
-    ensures { λ r. ⌜ r ≡ endingError ending ⌝ }
-{
-    match ending {
-        Ending::Done(_) => 0,
-        Ending::Failed(failure) => {
-            let error = failure.error;
-            access::ending::error_number(error)
-        }
-    }
-}
-
-pub fn ending_value(ending: Ending) -> u16
-    ensures { λ r. ⌜ r ≡ endingValue ending ⌝ }
-{
-    match ending {
-        Ending::Done(outcome) => outcome.value,
-        Ending::Failed(_) => 0,
-    }
-}
-
-pub fn ending_of(error: u8, value: u16) -> Ending
-    ensures { λ r. ⌜ r ≡ endingOf error value ⌝ }
-{
-    if error == 0 {
-        access::ending::returned(value)
-    } else {
-        access::ending::failed(error_of(error))
-    }
-}
-
 // Whether these are the numbers of an ending. No error is number 7, and a call that fails returns nothing.
 pub fn is_ending(error: u8, value: u16) -> bool
     ensures { λ r. ⌜ r ≡ isEnding error value ⌝ }
@@ -137,6 +80,6 @@ pub fn is_ending(error: u8, value: u16) -> bool
     match error {
         0 => true,
         7 => false,
-        _ => (error < 17) & (value == 0),
+        _ => (error < 28) & (value == 0),
     }
 }

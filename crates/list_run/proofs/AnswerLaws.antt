@@ -23,7 +23,7 @@ use Rattle.operations.proofs.SumLaws.{written-runs, read-runs, fault-free-small
 use Rattle.master.specs.declared.call.Kind.the-variants as kind
 use Rattle.master.specs.Calls.{causeAt, mismatch}
 use Rattle.master.proofs.CallAgrees.{passed-cause, passed-list}
-use Rattle.standing.specs.Look.{lookedWith, look}
+use Rattle.master_lent.specs.Look.{lookedWith, look}
 use Rattle.list_run.specs.declared.find.Found.{Found}
 use Rattle.list_run.specs.declared.runs.Place.{Place}
 use Rattle.list_run.specs.Passing.{fine, runsAfter, directionAt, Ahead, Next, Summed}

@@ -2,8 +2,8 @@
 use mathlib.Core.Bool.{true, false}
 use Rattle.operations.specs.declared.search.FoundRun.the-variants as found-run
 use Rattle.operations.specs.Operations.{isRead}
-use Rattle.standing.specs.declared.lent.Looked.{Looked}
-use Rattle.standing.specs.declared.lent.Looked.the-variants as looked
+use Rattle.master_lent.specs.declared.lent.Looked.{Looked}
+use Rattle.master_lent.specs.declared.lent.Looked.the-variants as looked
 use Rattle.list_run.specs.declared.find.Found.{Found}
 
 abbrev pub noRun : Found

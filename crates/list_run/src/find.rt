@@ -1,7 +1,7 @@
 // The run of a number in a list that is acceptable.
 ghost use mathlib.Core.Path.{_≡_};
 ghost use Rattle.master.specs.declared.call.Kind.the-variants as kind;
-ghost use Rattle.standing.specs.Look.{look};
+ghost use Rattle.master_lent.specs.Look.{look};
 ghost use Rattle.list_run.specs.Answer.{noRun, foundOf};
 use crate::runs;
 

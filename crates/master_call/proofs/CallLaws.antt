@@ -89,7 +89,7 @@ module _ (b list : List ℕ) (w room a : ℕ) (after : List ℕ) (asked : ℕ) w
       (ok : refusalBy (state .call .kind) (state .call .address) list w room ≡ none) (r : Run)
       (run : runAt (spansBy (state .call .kind) list w room) (state .progress .run) ≡ found-run.At r) where
     abbrev numbers : Bool
-    numbers = isStage (fieldsOf b .stage) (fieldsOf b .what) (fieldsOf b .part)
+    numbers = isStage (fieldsOf b .stage) (fieldsOf b .what) (fieldsOf b .phase)
 
     told : (here : Here) → here ≡ hereIn (state .call) r (isRead (r .direction)) → InRun (state .call) r (state .progress) here b
     unfolding fieldsOf
@@ -151,7 +151,7 @@ module _ (entry : ℕ) (b list : List ℕ) (w room a : ℕ) (after : List ℕ) (
           → Stepped (cond own (cond (sameFields (masterFields (masterOf (fieldsOf b))) (fieldsOf b)) (At (masterOf (fieldsOf b))) Nothing) Nothing) list w room a b after asked
       go false call ending e c k = r
       go true false ending e c k = other _ (ranges.image-ranges (fieldsOf b)) (rw c)
-      go true true false e c k = other _ (ranges.image-ranges (fieldsOf b)) (rw (c, k) (last (isStage (fieldsOf b .stage) (fieldsOf b .what) (fieldsOf b .part))))
+      go true true false e c k = other _ (ranges.image-ranges (fieldsOf b)) (rw (c, k) (last (isStage (fieldsOf b .stage) (fieldsOf b .what) (fieldsOf b .phase))))
         where
           last : (n : Bool) → n && false ≡ false
           last true = refl

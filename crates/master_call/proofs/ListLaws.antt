@@ -21,10 +21,10 @@ use Rattle.master.specs.declared.state.State.{State}
 use Rattle.master.specs.Fits.{fits}
 use Rattle.master.specs.Calls.{misshapen, causeAt, refuse, refusalBy, shapeBy}
 use Rattle.master.specs.Steps.{fitsLent, isNone, moveOf}
-use Rattle.standing.specs.declared.lent.Looked.{Looked}
-use Rattle.standing.specs.declared.lent.Looked.the-variants as looked
-use Rattle.standing.specs.Look.{look}
-use Rattle.standing.proofs.StandingLaws.{refused-cause, found-cause, formed}
+use Rattle.master_lent.specs.declared.lent.Looked.{Looked}
+use Rattle.master_lent.specs.declared.lent.Looked.the-variants as looked
+use Rattle.master_lent.specs.Look.{look}
+use Rattle.master_lent.proofs.FoundLaws.{refused-cause, found-cause, formed}
 use Rattle.images.specs.MasterImage.{masterOf, masterIn}
 use Rattle.list_run.specs.declared.find.Found.{Found}
 use Rattle.list_run.specs.Answer.{foundOf}

@@ -11,11 +11,12 @@ use lib.Dec.{eqb, leb, ltb}
 use lib.ListN.{length, getD}
 use Rattle.access.proofs.Choice.{first-true, second-true}
 use Rattle.block.specs.Bytes32.{wordAt, fieldsOf, Bytes}
+use Rattle.block.proofs.WidthLaws.{byte-below}
 use Rattle.operations.specs.declared.operation.Direction.the-variants as direction
 use Rattle.operations.specs.declared.search.Run.{Run}
 use Rattle.operations.specs.Operations.{isRead}
 use Rattle.operations.specs.Runs.{span}
-use Rattle.standing.proofs.LookLaws.{first-run, only-run, second-run, no-second, no-third}
+use Rattle.master_lent.proofs.LookLaws.{first-run, only-run, second-run, no-second, no-third}
 use Rattle.master.specs.declared.call.Call.{Call}
 use Rattle.master.specs.declared.call.Kind.{Kind}
 use Rattle.master.specs.declared.call.Kind.the-variants as kind
@@ -47,19 +48,10 @@ pub stops-as : (more : Bool) → not more && true ≡ cond more false true
 stops-as true = refl
 stops-as false = refl
 
--- ---- blocks of bytes
-
-byte-below : (b : List ℕ) → Bytes b → (i : ℕ) → getD b i 0 < 256
-byte-below [] q i = omega arith
-byte-below (x ∷ xs) q zero = q .0
-byte-below (x ∷ xs) q (suc i) = byte-below xs (q .1) i
+-- ---- the call of a block
 
 -- the kind of a block's call
 module _ (entry : ℕ) (b : List ℕ) (e : isCallOf entry b ≡ true) where
-  pub kind-is : masterOf (fieldsOf b) .call .kind ≡ kindOf entry (getD b 2 0)
-  unfolding masterOf fieldsOf
-  kind-is = ap (λ (n : ℕ). kindOf n (getD b 2 0)) (eqb-true (getD b 0 0) entry (own-entry entry b [] 0 0 0 [] 0 e))
-
   pub entry-is : getD b 0 0 ≡ entry
   unfolding fieldsOf
   entry-is = eqb-true (getD b 0 0) entry (own-entry entry b [] 0 0 0 [] 0 e)

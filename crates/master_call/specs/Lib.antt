@@ -1,1 +1,2 @@
+pub mod CallBegin
 pub mod CallStep

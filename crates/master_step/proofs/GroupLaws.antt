@@ -1,4 +1,4 @@
--- When a stage of a group is taken: its part is one of the group's, and the group's own test holds.
+-- When a stage of a group is taken: its phase is one of the group's, and the group's own test holds.
 -- Assumes nothing.
 use Prim.Native.Nat.{ℕ, suc, _<_, _≤_}
 use native.Mathlib.Omega.{arith}
@@ -33,11 +33,11 @@ pub set : (b : Bool) → not b ≡ false → b ≡ true
 set true e = refl
 set false e = sym e
 
-pub in-part : {t : Bool} (l b : Bool) → t ≡ l && b → l ≡ true → b ≡ true → t ≡ true
-in-part l b e p q = rw (e, p, q)
+pub in-phase : {t : Bool} (l b : Bool) → t ≡ l && b → l ≡ true → b ≡ true → t ≡ true
+in-phase l b e p q = rw (e, p, q)
 
-pub no-part : {t : Bool} (l b : Bool) → t ≡ l && b → l ≡ false → t ≡ false
-no-part l b e p = rw (e, p)
+pub no-phase : {t : Bool} (l b : Bool) → t ≡ l && b → l ≡ false → t ≡ false
+no-phase l b e p = rw (e, p)
 
 and-false : (l : Bool) → l && false ≡ false
 and-false true = refl
@@ -46,7 +46,7 @@ and-false false = refl
 pub no-fit : {t : Bool} (l b : Bool) → t ≡ l && b → b ≡ false → t ≡ false
 no-fit l b e p = rw (e, p) (and-false l)
 
--- the number and the part of a stage, and the group's test
+-- the number and the phase of a stage, and the group's test
 pub parted : (a b c : Bool) → (a && b) && c ≡ b && (a && c)
 parted true b c = refl
 parted false true c = refl
@@ -89,10 +89,10 @@ module _ {c : Call} {r : Run} {d : Progress} {here : Here} {b : List ℕ} {g : �
       (parted (ltb w 2) (ltb p 2) (fitsFallIn (hereOf c r d) (d .left) (fallOf w)))
 
   pub fall-taken : ltb p 2 ≡ true → ltb w 2 && fitsFallIn here left (fallOf w) ≡ true → isStage 1 w p && fitsAt (settingOf c) r (stageOf 1 w p) d ≡ true
-  fall-taken = in-part (ltb p 2) (ltb w 2 && fitsFallIn here left (fallOf w)) fall-decides
+  fall-taken = in-phase (ltb p 2) (ltb w 2 && fitsFallIn here left (fallOf w)) fall-decides
 
-  pub no-fall-part : ltb p 2 ≡ false → isStage 1 w p && fitsAt (settingOf c) r (stageOf 1 w p) d ≡ false
-  no-fall-part = no-part (ltb p 2) (ltb w 2 && fitsFallIn here left (fallOf w)) fall-decides
+  pub no-fall-phase : ltb p 2 ≡ false → isStage 1 w p && fitsAt (settingOf c) r (stageOf 1 w p) d ≡ false
+  no-fall-phase = no-phase (ltb p 2) (ltb w 2 && fitsFallIn here left (fallOf w)) fall-decides
 
   pub no-fall : ltb w 2 && fitsFallIn here left (fallOf w) ≡ false → isStage 1 w p && fitsAt (settingOf c) r (stageOf 1 w p) d ≡ false
   no-fall = no-fit (ltb p 2) (ltb w 2 && fitsFallIn here left (fallOf w)) fall-decides
@@ -104,10 +104,10 @@ module _ {c : Call} {r : Run} {d : Progress} {here : Here} {b : List ℕ} {g : �
       (parted (ltb w 7) (ltb p 3) (fitsWaitIn (hereOf c r d) (d .left) (flagOf w)))
 
   pub wait-taken : ltb p 3 ≡ true → ltb w 7 && fitsWaitIn here left (flagOf w) ≡ true → isStage 3 w p && fitsAt (settingOf c) r (stageOf 3 w p) d ≡ true
-  wait-taken = in-part (ltb p 3) (ltb w 7 && fitsWaitIn here left (flagOf w)) wait-decides
+  wait-taken = in-phase (ltb p 3) (ltb w 7 && fitsWaitIn here left (flagOf w)) wait-decides
 
-  pub no-wait-part : ltb p 3 ≡ false → isStage 3 w p && fitsAt (settingOf c) r (stageOf 3 w p) d ≡ false
-  no-wait-part = no-part (ltb p 3) (ltb w 7 && fitsWaitIn here left (flagOf w)) wait-decides
+  pub no-wait-phase : ltb p 3 ≡ false → isStage 3 w p && fitsAt (settingOf c) r (stageOf 3 w p) d ≡ false
+  no-wait-phase = no-phase (ltb p 3) (ltb w 7 && fitsWaitIn here left (flagOf w)) wait-decides
 
   pub no-wait : ltb w 7 && fitsWaitIn here left (flagOf w) ≡ false → isStage 3 w p && fitsAt (settingOf c) r (stageOf 3 w p) d ≡ false
   no-wait = no-fit (ltb p 3) (ltb w 7 && fitsWaitIn here left (flagOf w)) wait-decides

@@ -29,7 +29,7 @@ use Rattle.master.specs.declared.stage.Stage.{Stage}
 use Rattle.master.specs.declared.stage.Stage.the-variants as stage
 use Rattle.master.specs.declared.state.Progress.{Progress}
 use Rattle.master.specs.Machine.{owedFall, owedLaunch, owedWait, owedAddress, owedRecv, owedRead, owedStop, owedAbort, owedAt}
-use Rattle.stage_numbers.specs.MasterStage.{stageGroup, stageWhat, stagePart, stageOf, isStage, fallStageOf, launchStageOf, waitStageOf, addressStageOf, readStageOf, halfOf, abortStageOf}
+use Rattle.stage_numbers.specs.MasterStage.{stageGroup, stageWhat, stagePhase, stageOf, isStage, fallStageOf, launchStageOf, waitStageOf, addressStageOf, readStageOf, halfOf, abortStageOf}
 use Rattle.asked.specs.Asked.{isKeep}
 
 pub recv-kept : (b : Bool) (d : Progress) → not b ≡ isKeep (owedRecv (cond b recv.Status recv.Data) d)
@@ -195,5 +195,5 @@ module _ (g : Setting) (d : Progress) where
   pub still-open : (n w p : ℕ) → isStage n w p ≡ true → not (isEnd (owedAt g (stageOf n w p) d)) ≡ ltb n 10
   unfolding isStage
   still-open n w p e =
-      let group : stageGroup (stageOf n w p) ≡ n = eqb-true (stageGroup (stageOf n w p)) n (first-true (eqb (stageGroup (stageOf n w p)) n) (eqb (stageWhat (stageOf n w p)) w && eqb (stagePart (stageOf n w p)) p) e) in
+      let group : stageGroup (stageOf n w p) ≡ n = eqb-true (stageGroup (stageOf n w p)) n (first-true (eqb (stageGroup (stageOf n w p)) n) (eqb (stageWhat (stageOf n w p)) w && eqb (stagePhase (stageOf n w p)) p) e) in
       open-at (stageOf n w p) ∙ ap (λ (x : ℕ). ltb x 10) group

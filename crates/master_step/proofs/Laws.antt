@@ -9,9 +9,9 @@ use lib.Dec.{eqb, leb}
 use lib.ListN.{getD}
 use Rattle.access.specs.declared.ending.Failure.{Failure}
 use Rattle.access.specs.declared.need.Need.{Need}
-use Rattle.access.specs.Endings.{done}
+use Rattle.access.specs.Endings.{done, endingError, endingValue}
 use Rattle.block.specs.Bytes32.{bytesOf, wordAt}
-use Rattle.images.specs.Numbers.{flagNumber, chipOf, endingError, endingValue}
+use Rattle.images.specs.Numbers.{flagNumber, chipOf}
 use Rattle.images.specs.MasterImage.{masterFields}
 use Rattle.images.proofs.NumberLaws.{chip-back}
 use Rattle.operations.specs.declared.search.Run.{Run}
@@ -24,18 +24,18 @@ use Rattle.master.specs.Machine.{to, owedAt, stopsHere, tests, fails}
 use Rattle.master.specs.Fits.{counts, runs}
 use Rattle.master.specs.Calls.{settingOf}
 use Rattle.master.specs.Steps.{stateAt}
-use Rattle.stage_numbers.specs.MasterStage.{stageGroup, stageWhat, stagePart}
+use Rattle.stage_numbers.specs.MasterStage.{stageGroup, stageWhat, stagePhase}
 use Rattle.master_step.specs.declared.here.Here.{Here}
 use Rattle.master_step.specs.Going.{hereOf}
 use Rattle.asked.specs.Asked.{Asks}
 use Rattle.master_step.specs.Held.{fieldsAt, blockAt, Moves, Refuses, Steps, Seen}
 
 -- a block with the numbers of a stage is the state's
-image : (c : Call) (d : Progress) (st : Stage) → blockAt c d (stageGroup st) (stageWhat st) (stagePart st) ≡ bytesOf (masterFields (stateAt c (to st d)))
+image : (c : Call) (d : Progress) (st : Stage) → blockAt c d (stageGroup st) (stageWhat st) (stagePhase st) ≡ bytesOf (masterFields (stateAt c (to st d)))
 unfolding blockAt fieldsAt masterFields
 image c d st = refl
 
-pub moves : {c : Call} {after : List ℕ} {asked : ℕ} {st : Stage} {d : Progress} → after ≡ blockAt c d (stageGroup st) (stageWhat st) (stagePart st) → Asks asked (owedAt (settingOf c) st d) → Moves c (to st d) after asked
+pub moves : {c : Call} {after : List ℕ} {asked : ℕ} {st : Stage} {d : Progress} → after ≡ blockAt c d (stageGroup st) (stageWhat st) (stagePhase st) → Asks asked (owedAt (settingOf c) st d) → Moves c (to st d) after asked
 moves {c} {st = st} {d = d} e n = record { block = e ∙ image c d st; owed = n }
 
 pub takes : {t : Bool} {c : Call} {m : Move} {before after : List ℕ} {asked : ℕ} → t ≡ true → Moves c m after asked → Steps t c m before after asked

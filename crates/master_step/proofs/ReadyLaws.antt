@@ -6,14 +6,13 @@ use mathlib.Core.Path.{_≡_, refl, sym, ap, _∙_}
 use mathlib.Core.Bool.{Bool, true, false, Bool·beq, _&&_, _||_, true≢false}
 use mathlib.Core.List.{List}
 use lib.Dec.{eqb, leb, ltb}
-use borrow.Author.Tests.{eqb-true, ne-eqb, le-ltb}
-use Rattle.access.specs.declared.ending.Error.{Error}
-use Rattle.access.specs.declared.ending.Error.the-variants as error
+use borrow.Author.Tests.{eqb-true, ne-eqb, le-ltb, lt-ltb}
+use Rattle.access.proofs.NumberLaws.{error-above}
 use Rattle.access.specs.declared.ending.Ending.{Ending}
 use Rattle.access.specs.declared.ending.Ending.the-variants.{Done, Failed}
-use Rattle.access.specs.Endings.{errorNumber, done, returned, isDone, hasFailed}
+use Rattle.access.specs.Endings.{errorNumber, done, returned, isDone, hasFailed, endingError, endingValue}
 use Rattle.access.proofs.Choice.{both-true, first-true, second-true, either-true}
-use Rattle.images.specs.Numbers.{flagNumber, endingError, endingValue}
+use Rattle.images.specs.Numbers.{flagNumber}
 use Rattle.operations.specs.declared.search.Run.{Run}
 use Rattle.operations.specs.Operations.{isRead}
 use Rattle.master.specs.declared.call.Call.{Call}
@@ -22,7 +21,7 @@ use Rattle.master.specs.declared.stage.Stage.the-variants as stage
 use Rattle.master.specs.declared.state.Progress.{Progress}
 use Rattle.master.specs.Fits.{counts, runs, fitsAt, fitsFall, fitsWait, fitsRead, fitsStop, starting, sending, receiving, untouched, fitsAbort}
 use Rattle.master.specs.Calls.{settingOf}
-use Rattle.stage_numbers.specs.MasterStage.{stageGroup, stageWhat, stagePart, stageOf, isStage}
+use Rattle.stage_numbers.specs.MasterStage.{stageGroup, stageWhat, stagePhase, stageOf, isStage}
 use Rattle.master_step.specs.declared.here.Here.{Here}
 use Rattle.master_step.specs.Going.{hereIn}
 use Rattle.master_step.specs.Held.{blockAt, Ready, readyAt}
@@ -35,47 +34,15 @@ same-flag true false = refl
 same-flag false true = refl
 same-flag false false = refl
 
-no-error : (e : Error) → eqb (errorNumber e) 0 ≡ false
-no-error error.Bus = refl
-no-error error.Arbitration = refl
-no-error error.Nack = refl
-no-error error.Timeout = refl
-no-error error.Crc = refl
-no-error error.Overrun = refl
-no-error error.BufferTooLong = refl
-no-error error.InvalidAddress = refl
-no-error error.InvalidFrequency = refl
-no-error error.DividerTooLarge = refl
-no-error error.InputTooSlow = refl
-no-error error.TooManyOperations = refl
-no-error error.LengthMismatch = refl
-no-error error.InvalidState = refl
-no-error error.InvalidArgument = refl
-
-an-error : (e : Error) → ltb 0 (errorNumber e) ≡ true
-an-error error.Bus = refl
-an-error error.Arbitration = refl
-an-error error.Nack = refl
-an-error error.Timeout = refl
-an-error error.Crc = refl
-an-error error.Overrun = refl
-an-error error.BufferTooLong = refl
-an-error error.InvalidAddress = refl
-an-error error.InvalidFrequency = refl
-an-error error.DividerTooLarge = refl
-an-error error.InputTooSlow = refl
-an-error error.TooManyOperations = refl
-an-error error.LengthMismatch = refl
-an-error error.InvalidState = refl
-an-error error.InvalidArgument = refl
-
 pub done-is : (e : Ending) → eqb (endingError e) 0 && eqb (endingValue e) 0 ≡ isDone e
 done-is (Done o) = refl
-done-is (Failed f) = ap (λ (b : Bool). b && true) (no-error (f .error))
+done-is (Failed f) =
+    let h = error-above (f .error) in
+    ap (λ (b : Bool). b && true) (ne-eqb (errorNumber (f .error)) 0 (λ e. omega (arith, h, e)))
 
 pub failed-is : (e : Ending) → ltb 0 (endingError e) && leb (endingError e) 6 ≡ hasFailed e
 failed-is (Done o) = refl
-failed-is (Failed f) = ap (λ (b : Bool). b && leb (errorNumber (f .error)) 6) (an-error (f .error))
+failed-is (Failed f) = ap (λ (b : Bool). b && leb (errorNumber (f .error)) 6) (lt-ltb 0 (errorNumber (f .error)) (error-above (f .error)))
 
 -- ---- what they give
 
@@ -140,7 +107,7 @@ module _ (c : Call) (r : Run) (d : Progress) where
 
     group-told : isStage n w p ≡ true → stageGroup (stageOf n w p) ≡ n
     unfolding isStage
-    group-told e = eqb-true (stageGroup (stageOf n w p)) n (first-true (eqb (stageGroup (stageOf n w p)) n) (eqb (stageWhat (stageOf n w p)) w && eqb (stagePart (stageOf n w p)) p) e)
+    group-told e = eqb-true (stageGroup (stageOf n w p)) n (first-true (eqb (stageGroup (stageOf n w p)) n) (eqb (stageWhat (stageOf n w p)) w && eqb (stagePhase (stageOf n w p)) p) e)
 
     pub unready : readyAt n r d ≡ false → ltb n 10 && (isStage n w p && fitting) ≡ false
     unready test =

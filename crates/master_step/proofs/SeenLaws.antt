@@ -22,18 +22,18 @@ use Rattle.master_step.specs.Going.{hereIn}
 use Rattle.master_step.specs.Held.{fieldsAt, blockAt, InRun}
 
 module _ (f : Fields) where
-  same-call : sameFields (fieldsAt (masterOf f .call) (masterOf f .progress) (f .stage) (f .what) (f .part)) f ≡ isCall f && (true && isEnding (f .error) (f .value))
+  same-call : sameFields (fieldsAt (masterOf f .call) (masterOf f .progress) (f .stage) (f .what) (f .phase)) f ≡ isCall f && (true && isEnding (f .error) (f .value))
   unfolding sameFields fieldsAt masterOf isCall isKind isChip isEnding isFlag unusedEmpty
   same-call =
-      rw (itself (f .stage), itself (f .what), itself (f .part), itself (f .run), itself (f .left), itself (f .place), itself (f .word), itself (f .divider), itself (f .rise), itself (f .address), turned 0 (f .count), turned 0 (f .second), turned 0 (f .mhz), turned 0 (f .unused), joined (isFlag (f .flags)) (eqb (f .count) 0) (eqb (f .second) 0 && (eqb (f .mhz) 0 && eqb (f .unused) 0)))
-      (reordered (eqb (kindEntry (kindOf (f .entry) (f .option))) (f .entry)) (eqb (kindOption (kindOf (f .entry) (f .option))) (f .option)) (isChip (f .chip)) true (isEnding (f .error) (f .value)) (isFlag (f .flags) && unusedEmpty f))
+      rw (itself (f .stage), itself (f .what), itself (f .phase), itself (f .run), itself (f .left), itself (f .place), itself (f .word), itself (f .divider), itself (f .rise), itself (f .address), turned 0 (f .count), turned 0 (f .second), turned 0 (f .mhz), turned 0 (f .unused), joined (isFlag (f .marks)) (eqb (f .count) 0) (eqb (f .second) 0 && (eqb (f .mhz) 0 && eqb (f .unused) 0)))
+      (reordered (eqb (kindEntry (kindOf (f .entry) (f .option))) (f .entry)) (eqb (kindOption (kindOf (f .entry) (f .option))) (f .option)) (isChip (f .chip)) true (isEnding (f .error) (f .value)) (isFlag (f .marks) && unusedEmpty f))
 
-  fields-same : isCall f ≡ true → isEnding (f .error) (f .value) ≡ true → fieldsAt (masterOf f .call) (masterOf f .progress) (f .stage) (f .what) (f .part) ≡ f
+  fields-same : isCall f ≡ true → isEnding (f .error) (f .value) ≡ true → fieldsAt (masterOf f .call) (masterOf f .progress) (f .stage) (f .what) (f .phase) ≡ f
   fields-same c e = same-said _ f (same-call ∙ both-true c e)
 
 -- the block is that of what it tells, whatever the numbers of the stage
 pub block-told : (b : List ℕ) → length b ≡ 32 → Bytes b → isCall (fieldsOf b) ≡ true → isEnding (fieldsOf b .error) (fieldsOf b .value) ≡ true
-    → b ≡ blockAt (masterOf (fieldsOf b) .call) (masterOf (fieldsOf b) .progress) (fieldsOf b .stage) (fieldsOf b .what) (fieldsOf b .part)
+    → b ≡ blockAt (masterOf (fieldsOf b) .call) (masterOf (fieldsOf b) .progress) (fieldsOf b .stage) (fieldsOf b .what) (fieldsOf b .phase)
 unfolding blockAt
 block-told b size bytes c e = sym (bytes-back b size bytes) ∙ ap bytesOf (sym (fields-same (fieldsOf b) c e))
 

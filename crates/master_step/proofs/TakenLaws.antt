@@ -25,7 +25,7 @@ use Rattle.master_step.specs.declared.here.Here.{Here}
 use Rattle.master_step.specs.Going.{hereOf, startingIn, sendingIn, receivingIn, fitsReadIn, fitsStopIn}
 use Rattle.master_step.specs.Held.{Seen}
 use Rattle.master_step.proofs.Laws.{decides}
-use Rattle.master_step.proofs.GroupLaws.{parted, in-part, no-part, no-fit}
+use Rattle.master_step.proofs.GroupLaws.{parted, in-phase, no-phase, no-fit}
 
 -- a group with one kind of stages has 0 in the place of what it is for
 pub zero-told : (w : ℕ) (b : Bool) → eqb w 0 && b ≡ true → 0 ≡ w
@@ -108,10 +108,10 @@ module _ {c : Call} {r : Run} {d : Progress} {here : Here} {b : List ℕ} {g : �
       (parted (ltb w 3) (ltb p 2) (fitsStopIn (hereOf c r d) (d .left) (stopForOf w)))
 
   pub stop-taken : ltb p 2 ≡ true → ltb w 3 && fitsStopIn here left (stopForOf w) ≡ true → isStage 8 w p && fitsAt (settingOf c) r (stageOf 8 w p) d ≡ true
-  stop-taken = in-part (ltb p 2) (ltb w 3 && fitsStopIn here left (stopForOf w)) stop-decides
+  stop-taken = in-phase (ltb p 2) (ltb w 3 && fitsStopIn here left (stopForOf w)) stop-decides
 
-  pub no-stop-part : ltb p 2 ≡ false → isStage 8 w p && fitsAt (settingOf c) r (stageOf 8 w p) d ≡ false
-  no-stop-part = no-part (ltb p 2) (ltb w 3 && fitsStopIn here left (stopForOf w)) stop-decides
+  pub no-stop-phase : ltb p 2 ≡ false → isStage 8 w p && fitsAt (settingOf c) r (stageOf 8 w p) d ≡ false
+  no-stop-phase = no-phase (ltb p 2) (ltb w 3 && fitsStopIn here left (stopForOf w)) stop-decides
 
   pub no-stop : ltb w 3 && fitsStopIn here left (stopForOf w) ≡ false → isStage 8 w p && fitsAt (settingOf c) r (stageOf 8 w p) d ≡ false
   no-stop = no-fit (ltb p 2) (ltb w 3 && fitsStopIn here left (stopForOf w)) stop-decides

@@ -95,4 +95,4 @@ module _ (h : Here) (left : ℕ) where
 
 -- the block has nothing of the run yet, and the run has a first access
 unfoldable pub fitsBeginIn : Here → ℕ → ℕ → ℕ → List ℕ → Bool
-fitsBeginIn h left what part block = eqb what 0 && (eqb part 0 && (eqb (getD block 6 0) 0 && (eqb left 0 && (eqb (wordAt block 14) 0 && (h .reading || h .start)))))
+fitsBeginIn h left what phase block = eqb what 0 && (eqb phase 0 && (eqb (getD block 6 0) 0 && (eqb left 0 && (eqb (wordAt block 14) 0 && (h .reading || h .start)))))

@@ -9,10 +9,10 @@ use lib.ListN.{length, getD}
 use Rattle.access.specs.declared.ending.Error.the-variants.{InvalidState}
 use Rattle.access.specs.declared.need.Need.the-variants as need
 use Rattle.registers.specs.declared.chip.Chip.{Chip}
-use Rattle.access.specs.Endings.{done, failed, isDone, hasFailed}
+use Rattle.access.specs.Endings.{done, failed, isDone, hasFailed, endingError, endingValue}
 use Rattle.block.specs.declared.fields.Fields.{Fields}
 use Rattle.block.specs.Bytes32.{bytesOf, blockSize}
-use Rattle.images.specs.Numbers.{flagNumber, chipNumber, endingError, endingValue}
+use Rattle.images.specs.Numbers.{flagNumber, chipNumber}
 use Rattle.images.specs.MasterImage.{kindEntry, kindOption, masterFields}
 use Rattle.operations.specs.declared.search.Run.{Run}
 use Rattle.operations.specs.Operations.{isRead}
@@ -33,16 +33,16 @@ use Rattle.master_step.specs.Going.{hereIn, hereOf}
 
 -- what a block says of the call c with the progress d, where these are the numbers of the stage
 unfoldable pub fieldsAt : Call → Progress → ℕ → ℕ → ℕ → Fields
-fieldsAt c d group what part = record { entry = kindEntry (c .kind); chip = chipNumber (c .chip); option = kindOption (c .kind); stage = group; what = what; part = part; flags = flagNumber (d .reading); error = endingError (d .ending); address = c .address; run = d .run; left = d .left; place = d .place; word = d .word; divider = d .divider; rise = d .rise; value = endingValue (d .ending); count = 0; second = 0; mhz = 0; unused = 0 }
+fieldsAt c d group what phase = record { entry = kindEntry (c .kind); chip = chipNumber (c .chip); option = kindOption (c .kind); stage = group; what = what; phase = phase; marks = flagNumber (d .reading); error = endingError (d .ending); address = c .address; run = d .run; left = d .left; place = d .place; word = d .word; divider = d .divider; rise = d .rise; value = endingValue (d .ending); count = 0; second = 0; mhz = 0; unused = 0 }
 
 -- its bytes
 unfoldable pub blockAt : Call → Progress → ℕ → ℕ → ℕ → List ℕ
-blockAt c d group what part = bytesOf (fieldsAt c d group what part)
+blockAt c d group what phase = bytesOf (fieldsAt c d group what phase)
 
 -- stores that change the progress as f says, and the numbers of the stage
-pub record Puts (before after : List ℕ) (f : Progress → Progress) (group what part : ℕ → ℕ) : Type 0 where
+pub record Puts (before after : List ℕ) (f : Progress → Progress) (group what phase : ℕ → ℕ) : Type 0 where
   pub size : length after ≡ blockSize
-  pub block : (c : Call) (d : Progress) (g w p : ℕ) → before ≡ blockAt c d g w p → after ≡ blockAt c (f d) (group g) (what w) (part p)
+  pub block : (c : Call) (d : Progress) (g w p : ℕ) → before ≡ blockAt c d g w p → after ≡ blockAt c (f d) (group g) (what w) (phase p)
 
 abbrev pub kept : ℕ → ℕ
 kept n = n
@@ -63,8 +63,8 @@ pub record Steps (test : Bool) (c : Call) (m : Move) (before after : List ℕ) (
   pub refused : test ≡ false → Refuses before after asked
 
 -- what has been seen before: the block is that of the call c, in the run r, with the progress d and no error met
-pub record Seen (c : Call) (r : Run) (d : Progress) (here : Here) (block : List ℕ) (group what part : ℕ) : Type 0 where
-  pub held : block ≡ blockAt c d group what part
+pub record Seen (c : Call) (r : Run) (d : Progress) (here : Here) (block : List ℕ) (group what phase : ℕ) : Type 0 where
+  pub held : block ≡ blockAt c d group what phase
   pub going : here ≡ hereOf c r d
   pub ending : d .ending ≡ done
 
@@ -86,30 +86,30 @@ Within group what here left before after asked m =
 -- THE CONTRACT OF A GROUP: of all blocks whose counts are the run's, it takes those that hold a stage of the group that fits, and goes
 -- where the machine goes; at any other it refuses
 abbrev pub Group : ℕ → Here → ℕ → ℕ → ℕ → ℕ → List ℕ → List ℕ → ℕ → Type 0
-Group group here left what part a before after asked =
-    (c : Call) (r : Run) (d : Progress) → Seen c r d here before group what part → left ≡ d .left → counts r d ≡ true
-    → Steps (isStage group what part && fitsAt (settingOf c) r (stageOf group what part) d) c (advanceAt (settingOf c) r (stageOf group what part) d a) before after asked
+Group group here left what phase a before after asked =
+    (c : Call) (r : Run) (d : Progress) → Seen c r d here before group what phase → left ≡ d .left → counts r d ≡ true
+    → Steps (isStage group what phase && fitsAt (settingOf c) r (stageOf group what phase) d) c (advanceAt (settingOf c) r (stageOf group what phase) d a) before after asked
 
 -- THE SAME BEFORE A RUN'S FIRST ACCESS, where the block has no counts of the run yet: what is known of the run goes by its own direction
-pub record Unbegun (c : Call) (r : Run) (d : Progress) (here : Here) (block : List ℕ) (what part : ℕ) : Type 0 where
-  pub held : block ≡ blockAt c d 0 what part
+pub record Unbegun (c : Call) (r : Run) (d : Progress) (here : Here) (block : List ℕ) (what phase : ℕ) : Type 0 where
+  pub held : block ≡ blockAt c d 0 what phase
   pub going : here ≡ hereIn c r (isRead (r .direction))
   pub ending : d .ending ≡ done
 
 abbrev pub Beginning : Here → ℕ → ℕ → ℕ → ℕ → List ℕ → List ℕ → ℕ → Type 0
-Beginning here left what part a before after asked =
-    (c : Call) (r : Run) (d : Progress) → Unbegun c r d here before what part → left ≡ d .left
-    → Steps (isStage 0 what part && fitsAt (settingOf c) r (stageOf 0 what part) d) c (advanceAt (settingOf c) r (stageOf 0 what part) d a) before after asked
+Beginning here left what phase a before after asked =
+    (c : Call) (r : Run) (d : Progress) → Unbegun c r d here before what phase → left ≡ d .left
+    → Steps (isStage 0 what phase && fitsAt (settingOf c) r (stageOf 0 what phase) d) c (advanceAt (settingOf c) r (stageOf 0 what phase) d a) before after asked
 
 -- THE SAME IN AN ABORT: an error was met, with a number from 1 to 6
-pub record Failing (c : Call) (d : Progress) (block : List ℕ) (what part : ℕ) : Type 0 where
-  pub held : block ≡ blockAt c d 9 what part
+pub record Failing (c : Call) (d : Progress) (block : List ℕ) (what phase : ℕ) : Type 0 where
+  pub held : block ≡ blockAt c d 9 what phase
   pub ending : hasFailed (d .ending) ≡ true
 
 abbrev pub Aborting : ℕ → ℕ → ℕ → List ℕ → List ℕ → ℕ → Type 0
-Aborting what part a before after asked =
-    (c : Call) (r : Run) (d : Progress) → Failing c d before what part → counts r d ≡ true
-    → Steps (isStage 9 what part && fitsAt (settingOf c) r (stageOf 9 what part) d) c (advanceAt (settingOf c) r (stageOf 9 what part) d a) before after asked
+Aborting what phase a before after asked =
+    (c : Call) (r : Run) (d : Progress) → Failing c d before what phase → counts r d ≡ true
+    → Steps (isStage 9 what phase && fitsAt (settingOf c) r (stageOf 9 what phase) d) c (advanceAt (settingOf c) r (stageOf 9 what phase) d a) before after asked
 
 -- a function that goes where m says, in an abort
 abbrev pub Aborts : List ℕ → List ℕ → ℕ → (Chip → Progress → Move) → Type 0
@@ -117,8 +117,8 @@ Aborts before after asked m = (c : Call) (d : Progress) (p : ℕ) → Failing c 
 
 -- THE STEP, at any numbers of a stage: what has to be seen before it. The run is r, its counts are in the block unless it is yet to
 -- begin, and no error was met, or in an abort one with a number from 1 to 6
-pub record Ready (c : Call) (r : Run) (d : Progress) (here : Here) (block : List ℕ) (group what part : ℕ) : Type 0 where
-  pub held : block ≡ blockAt c d group what part
+pub record Ready (c : Call) (r : Run) (d : Progress) (here : Here) (block : List ℕ) (group what phase : ℕ) : Type 0 where
+  pub held : block ≡ blockAt c d group what phase
   pub going : here ≡ hereIn c r (isRead (r .direction))
   pub counted : 0 < group → group < 10 → counts r d ≡ true
   pub unhurt : group < 9 → d .ending ≡ done
@@ -126,9 +126,9 @@ pub record Ready (c : Call) (r : Run) (d : Progress) (here : Here) (block : List
 
 -- it is taken at a stage that fits and has not ended
 abbrev pub Step : ℕ → Here → ℕ → ℕ → ℕ → ℕ → List ℕ → List ℕ → ℕ → Type 0
-Step group here left what part a before after asked =
-    (c : Call) (r : Run) (d : Progress) → Ready c r d here before group what part → left ≡ d .left
-    → Steps (ltb group 10 && (isStage group what part && fitsAt (settingOf c) r (stageOf group what part) d)) c (advanceAt (settingOf c) r (stageOf group what part) d a) before after asked
+Step group here left what phase a before after asked =
+    (c : Call) (r : Run) (d : Progress) → Ready c r d here before group what phase → left ≡ d .left
+    → Steps (ltb group 10 && (isStage group what phase && fitsAt (settingOf c) r (stageOf group what phase) d)) c (advanceAt (settingOf c) r (stageOf group what phase) d a) before after asked
 
 -- whether a block can hold a stage of the group, by its counts and its ending
 abbrev pub readyAt : ℕ → Run → Progress → Bool

@@ -22,11 +22,11 @@ use registers::fields;
 use registers::word;
 
 // The rise time is kept with i2c_v3 alone.
-fn fits_abort(chip: Chip, what: u8, part: u8) -> bool
-    ensures { λ r. ⌜ r ≡ eqb what 0 && (ltb part 15 && fitsAbort chip (abortStageOf part)) ⌝ }
+fn fits_abort(chip: Chip, what: u8, phase: u8) -> bool
+    ensures { λ r. ⌜ r ≡ eqb what 0 && (ltb phase 15 && fitsAbort chip (abortStageOf phase)) ⌝ }
 {
     (what == 0)
-        & ((part < 15) & (chip.i2c_v3 | ((part != stage::RISE) & (part != stage::PUT_RISE))))
+        & ((phase < 15) & (chip.i2c_v3 | ((phase != stage::RISE) & (phase != stage::PUT_RISE))))
 }
 
 // CTLR2 without its transfer bits.
@@ -55,11 +55,11 @@ fn ends(block: &mut [u8]) -> u64
 
 // finish_transfer(), and then `if control.start() || control.stop()` a reset that puts FREQ, CKCFGR and RTR back,
 // `else if star2.read().msl()` STOP.
-fn abort_part(block: &mut [u8], chip: Chip, part: u8, answer: u16) -> u64
+fn abort_phase(block: &mut [u8], chip: Chip, phase: u8, answer: u16) -> u64
     requires { ⌜ length (now block) ≡ blockSize ⌝ }
-    ensures { λ r. ⌜ Aborts (now (block .entry)) (now (block .exit)) r (λ (_ : Chip) (d : Progress). abortTransfer chip (abortStageOf part) d answer) ⌝ }
+    ensures { λ r. ⌜ Aborts (now (block .entry)) (now (block .exit)) r (λ (_ : Chip) (d : Progress). abortTransfer chip (abortStageOf phase) d answer) ⌝ }
 {
-    match part {
+    match phase {
         stage::FINISH_READ => {
             let finished = finish_transfer(answer);
             go::modifies(
@@ -71,71 +71,71 @@ fn abort_part(block: &mut [u8], chip: Chip, part: u8, answer: u16) -> u64
             )
         }
         stage::FINISH_WRITE => {
-            put::part(block, stage::CONTROL);
+            put::phase(block, stage::CONTROL);
             asked::read(Register::Ctlr1)
         }
         stage::CONTROL => {
             if word::bit(answer, bits::START) | word::bit(answer, bits::STOP) {
-                put::part(block, stage::FREQUENCY);
+                put::phase(block, stage::FREQUENCY);
                 return asked::read(Register::Ctlr2);
             }
-            put::part(block, stage::MASTER);
+            put::phase(block, stage::MASTER);
             asked::read(Register::Star2)
         }
         // What the reset would lose: ctlr2.read().freq(), ckcfgr.read(), and rtr.read() with i2c_v3.
         stage::FREQUENCY => {
             put::saves(block, answer);
-            put::part(block, stage::DIVIDER);
+            put::phase(block, stage::DIVIDER);
             asked::read(Register::Ckcfgr)
         }
         stage::DIVIDER => {
             put::saves_divider(block, answer);
             if chip.i2c_v3 {
-                put::part(block, stage::RISE);
+                put::phase(block, stage::RISE);
                 return asked::read(Register::Rtr);
             }
-            put::part(block, stage::RESET);
+            put::phase(block, stage::RESET);
             asked::write(Register::Ctlr1, word::set_bit(0, bits::SWRST))
         }
         stage::RISE => {
             put::saves_rise(block, answer);
-            put::part(block, stage::RESET);
+            put::phase(block, stage::RESET);
             asked::write(Register::Ctlr1, word::set_bit(0, bits::SWRST))
         }
         // ctlr1.write(set_swrst(true)), ctlr1.write(set_swrst(false))
         stage::RESET => {
-            put::part(block, stage::RELEASE);
+            put::phase(block, stage::RELEASE);
             asked::write(Register::Ctlr1, word::clear_bit(0, bits::SWRST))
         }
         stage::RELEASE => {
             let frequency = only_frequency(put::word_at(block, put::WORD));
-            put::part(block, stage::PUT_FREQUENCY);
+            put::phase(block, stage::PUT_FREQUENCY);
             asked::write(Register::Ctlr2, frequency)
         }
         // ctlr2.write(set_freq(frequency)), ckcfgr.write_value(divider), rtr.write_value(rise), ctlr1.write(set_pe(true))
         stage::PUT_FREQUENCY => {
             let divider = put::word_at(block, put::DIVIDER);
-            put::part(block, stage::PUT_DIVIDER);
+            put::phase(block, stage::PUT_DIVIDER);
             asked::write(Register::Ckcfgr, divider)
         }
         stage::PUT_DIVIDER => {
             if chip.i2c_v3 {
                 let rise = put::word_at(block, put::RISE);
-                put::part(block, stage::PUT_RISE);
+                put::phase(block, stage::PUT_RISE);
                 return asked::write(Register::Rtr, rise);
             }
-            put::part(block, stage::ENABLE);
+            put::phase(block, stage::ENABLE);
             asked::write(Register::Ctlr1, word::set_bit(0, bits::PE))
         }
         stage::PUT_RISE => {
-            put::part(block, stage::ENABLE);
+            put::phase(block, stage::ENABLE);
             asked::write(Register::Ctlr1, word::set_bit(0, bits::PE))
         }
         stage::ENABLE => ends(block),
         // else if star2.read().msl() { generate_stop() }
         stage::MASTER => {
             if word::bit(answer, bits::MSL) {
-                put::part(block, stage::STOP_BIT_READ);
+                put::phase(block, stage::STOP_BIT_READ);
                 return asked::read(Register::Ctlr1);
             }
             ends(block)
@@ -154,13 +154,13 @@ fn abort_part(block: &mut [u8], chip: Chip, part: u8, answer: u16) -> u64
     }
 }
 
-pub fn abort_transfer(block: &mut [u8], what: u8, part: u8, answer: u16) -> u64
+pub fn abort_transfer(block: &mut [u8], what: u8, phase: u8, answer: u16) -> u64
     requires { ⌜ length (now block) ≡ blockSize ⌝ }
-    ensures { λ r. ⌜ Aborting what part answer (now (block .entry)) (now (block .exit)) r ⌝ }
+    ensures { λ r. ⌜ Aborting what phase answer (now (block .entry)) (now (block .exit)) r ⌝ }
 {
     let chip = numbers::chip_of(block[put::CHIP]);
-    if !fits_abort(chip, what, part) {
+    if !fits_abort(chip, what, phase) {
         return asked::refused();
     }
-    abort_part(block, chip, part, answer)
+    abort_phase(block, chip, phase, answer)
 }

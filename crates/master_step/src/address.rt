@@ -52,16 +52,16 @@ fn addressed(block: &mut [u8], here: Here, left: u16) -> u64
 }
 
 // if ctlr1.read().start() || !star2.read().msl() { return Err(Arbitration) }, and then datar.write(address); STAR2 is read behind ADDR.
-fn address_part(block: &mut [u8], here: Here, left: u16, part: u8, answer: u16) -> u64
+fn address_at(block: &mut [u8], here: Here, left: u16, phase: u8, answer: u16) -> u64
     requires { ⌜ length (now block) ≡ blockSize ⌝ }
-    ensures { λ r. ⌜ Within 4 0 here left (now (block .entry)) (now (block .exit)) r (λ (g : Setting) (run : Run) (d : Progress). addressPhase g run (addressStageOf part) d answer) ⌝ }
+    ensures { λ r. ⌜ Within 4 0 here left (now (block .entry)) (now (block .exit)) r (λ (g : Setting) (run : Run) (d : Progress). addressPhase g run (addressStageOf phase) d answer) ⌝ }
 {
-    match part {
+    match phase {
         stage::ADDRESS_CONTROL => {
             if word::bit(answer, bits::START) {
                 return go::fails(block, ending::failure_of(Error::Arbitration));
             }
-            put::part(block, stage::ADDRESS_MASTER);
+            put::phase(block, stage::ADDRESS_MASTER);
             asked::read(Register::Star2)
         }
         stage::ADDRESS_MASTER => {
@@ -69,7 +69,7 @@ fn address_part(block: &mut [u8], here: Here, left: u16, part: u8, answer: u16) 
                 return go::fails(block, ending::failure_of(Error::Arbitration));
             }
             let address = put::word_at(block, put::ADDRESS);
-            put::part(block, stage::ADDRESS_WORD);
+            put::phase(block, stage::ADDRESS_WORD);
             asked::write(
                 Register::Datar,
                 addresses::address_word(address, here.reading),
@@ -88,14 +88,14 @@ pub fn address_phase(
     here: Here,
     left: u16,
     what: u8,
-    part: u8,
+    phase: u8,
     answer: u16,
 ) -> u64
     requires { ⌜ length (now block) ≡ blockSize ⌝ }
-    ensures { λ r. ⌜ Group 4 here left what part answer (now (block .entry)) (now (block .exit)) r ⌝ }
+    ensures { λ r. ⌜ Group 4 here left what phase answer (now (block .entry)) (now (block .exit)) r ⌝ }
 {
-    if !here::fits_starting(here, left, what, part) {
+    if !here::fits_starting(here, left, what, phase) {
         return asked::refused();
     }
-    address_part(block, here, left, part, answer)
+    address_at(block, here, left, phase, answer)
 }

@@ -13,23 +13,23 @@ use registers::bits;
 use registers::word;
 
 // The block has nothing of the run yet, and the run has a first access: a read changes POS, and a START waits for STOP to fall.
-fn fits_begin(block: &[u8], here: Here, left: u16, what: u8, part: u8) -> bool
+fn fits_begin(block: &[u8], here: Here, left: u16, what: u8, phase: u8) -> bool
     requires { ⌜ length (now block) ≡ blockSize ⌝ }
-    ensures { λ r. ⌜ r ≡ fitsBeginIn here left what part (now (block .entry)) ⌝ }
+    ensures { λ r. ⌜ r ≡ fitsBeginIn here left what phase (now (block .entry)) ⌝ }
 {
     (what == 0)
-        & ((part == 0)
-            & ((block[put::FLAGS] == 0)
+        & ((phase == 0)
+            & ((block[put::MARKS] == 0)
                 & ((left == 0)
                     & ((put::word_at(block, put::PLACE) == 0) & (here.reading | here.start)))))
 }
 
 // The run begins, by the first answer: ctlr1.modify(set_pos(..)) in a read, and in a write the first word of wait_stop_finished.
-pub fn begins(block: &mut [u8], here: Here, left: u16, what: u8, part: u8, answer: u16) -> u64
+pub fn begins(block: &mut [u8], here: Here, left: u16, what: u8, phase: u8, answer: u16) -> u64
     requires { ⌜ length (now block) ≡ blockSize ⌝ }
-    ensures { λ r. ⌜ Beginning here left what part answer (now (block .entry)) (now (block .exit)) r ⌝ }
+    ensures { λ r. ⌜ Beginning here left what phase answer (now (block .entry)) (now (block .exit)) r ⌝ }
 {
-    if !fits_begin(block, here, left, what, part) {
+    if !fits_begin(block, here, left, what, phase) {
         return asked::refused();
     }
     put::begun(block, here);

@@ -28,25 +28,25 @@ pub fn fails(block: &mut [u8], failure: Failure) -> u64
     asked::read(Register::Ctlr2)
 }
 
-// A register is changed: the word read is saved, and in this part of the stage the new one is written.
-pub fn modifies(block: &mut [u8], part: u8, old: u16, register: Register, new: u16) -> u64
+// A register is changed: the word read is saved, and in this phase of the stage the new one is written.
+pub fn modifies(block: &mut [u8], phase: u8, old: u16, register: Register, new: u16) -> u64
     requires { ⌜ length (now block) ≡ blockSize ⌝ }
-    ensures { λ _. ⌜ Puts (now (block .entry)) (now (block .exit)) (saves old) kept kept (λ (_ : ℕ). part) ⌝ }
+    ensures { λ _. ⌜ Puts (now (block .entry)) (now (block .exit)) (saves old) kept kept (λ (_ : ℕ). phase) ⌝ }
     ensures { λ r. ⌜ Asks r (need.Write register new) ⌝ }
 {
     put::saves(block, old);
-    put::part(block, part);
+    put::phase(block, phase);
     asked::write(register, new)
 }
 
 // On to a stage where a byte is to be kept, at the place that the block has.
-pub fn keeps(block: &mut [u8], group: u8, part: u8) -> u64
+pub fn keeps(block: &mut [u8], group: u8, phase: u8) -> u64
     requires { ⌜ length (now block) ≡ blockSize ⌝ }
-    ensures { λ _. ⌜ Puts (now (block .entry)) (now (block .exit)) (λ (d : Progress). d) (λ (_ : ℕ). group) (λ (_ : ℕ). 0) (λ (_ : ℕ). part) ⌝ }
+    ensures { λ _. ⌜ Puts (now (block .entry)) (now (block .exit)) (λ (d : Progress). d) (λ (_ : ℕ). group) (λ (_ : ℕ). 0) (λ (_ : ℕ). phase) ⌝ }
     ensures { λ r. ⌜ ((c : Call) (d : Progress) (g w p : ℕ) → now (block .entry) ≡ blockAt c d g w p → Asks r (need.Keep (d .place))) ⌝ }
 {
     let place = put::word_at(block, put::PLACE);
-    put::to(block, group, 0, part);
+    put::to(block, group, 0, phase);
     asked::keep(place)
 }
 

@@ -24,10 +24,10 @@ pub fn starting(here: Here, left: u16) -> bool
 }
 
 // A stage there that is one of four parts.
-pub fn fits_starting(here: Here, left: u16, what: u8, part: u8) -> bool
-    ensures { λ r. ⌜ r ≡ eqb what 0 && (ltb part 4 && startingIn here left) ⌝ }
+pub fn fits_starting(here: Here, left: u16, what: u8, phase: u8) -> bool
+    ensures { λ r. ⌜ r ≡ eqb what 0 && (ltb phase 4 && startingIn here left) ⌝ }
 {
-    (what == 0) & ((part < 4) & starting(here, left))
+    (what == 0) & ((phase < 4) & starting(here, left))
 }
 
 // All bytes are moved, and STOP is asked.

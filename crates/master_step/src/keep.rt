@@ -8,10 +8,10 @@ ghost use Rattle.asked.specs.Asked.{isKeep};
 ghost use Prim.Native.Nat.{ℕ};
 use crate::stage;
 
-fn keeps_read(part: u8) -> bool
-    ensures { λ r. ⌜ ((g : Setting) (what : ℕ) (d : Progress) → r ≡ isKeep (owedAt g (stageOf 7 what part) d)) ⌝ }
+fn keeps_read(phase: u8) -> bool
+    ensures { λ r. ⌜ ((g : Setting) (what : ℕ) (d : Progress) → r ≡ isKeep (owedAt g (stageOf 7 what phase) d)) ⌝ }
 {
-    match part {
+    match phase {
         stage::THIRD => true,
         stage::SECOND_LAST => true,
         stage::LAST => true,
@@ -20,12 +20,12 @@ fn keeps_read(part: u8) -> bool
 }
 
 // Whether the access that is owed at these numbers is a byte to keep. Its place is the block's.
-pub fn is_kept(group: u8, part: u8) -> bool
-    ensures { λ r. ⌜ ((g : Setting) (what : ℕ) (d : Progress) → r ≡ isKeep (owedAt g (stageOf group what part) d)) ⌝ }
+pub fn is_kept(group: u8, phase: u8) -> bool
+    ensures { λ r. ⌜ ((g : Setting) (what : ℕ) (d : Progress) → r ≡ isKeep (owedAt g (stageOf group what phase) d)) ⌝ }
 {
     match group {
-        stage::RECV_BYTE => part != stage::RECV_STATUS,
-        stage::READ_ITER => keeps_read(part),
+        stage::RECV_BYTE => phase != stage::RECV_STATUS,
+        stage::READ_ITER => keeps_read(phase),
         _ => false,
     }
 }

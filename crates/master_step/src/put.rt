@@ -20,9 +20,9 @@ pub const GROUP: usize = 3;
 
 pub const WHAT: usize = 4;
 
-pub const PART: usize = 5;
+pub const PHASE: usize = 5;
 
-pub const FLAGS: usize = 6;
+pub const MARKS: usize = 6;
 
 pub const ERROR: usize = 7;
 
@@ -56,21 +56,21 @@ pub fn word_at(block: &[u8], at: usize) -> u16
 }
 
 // On to another stage.
-pub fn to(block: &mut [u8], group: u8, what: u8, part: u8)
+pub fn to(block: &mut [u8], group: u8, what: u8, phase: u8)
     requires { ⌜ length (now block) ≡ blockSize ⌝ }
-    ensures { λ _. ⌜ Puts (now (block .entry)) (now (block .exit)) (λ (d : Progress). d) (λ (_ : ℕ). group) (λ (_ : ℕ). what) (λ (_ : ℕ). part) ⌝ }
+    ensures { λ _. ⌜ Puts (now (block .entry)) (now (block .exit)) (λ (d : Progress). d) (λ (_ : ℕ). group) (λ (_ : ℕ). what) (λ (_ : ℕ). phase) ⌝ }
 {
     block[GROUP] = group;
     block[WHAT] = what;
-    block[PART] = part;
+    block[PHASE] = phase;
 }
 
-// On to another part of the stage.
-pub fn part(block: &mut [u8], part: u8)
+// On to another phase of the stage.
+pub fn phase(block: &mut [u8], phase: u8)
     requires { ⌜ length (now block) ≡ blockSize ⌝ }
-    ensures { λ _. ⌜ Puts (now (block .entry)) (now (block .exit)) (λ (d : Progress). d) kept kept (λ (_ : ℕ). part) ⌝ }
+    ensures { λ _. ⌜ Puts (now (block .entry)) (now (block .exit)) (λ (d : Progress). d) kept kept (λ (_ : ℕ). phase) ⌝ }
 {
-    block[PART] = part;
+    block[PHASE] = phase;
 }
 
 // The word of the last read.
@@ -130,7 +130,7 @@ pub fn begun(block: &mut [u8], here: Here)
     ensures { λ _. ⌜ length (now (block .exit)) ≡ blockSize ⌝ }
     ensures { λ _. ⌜ ((c : Call) (r : Run) (d : Progress) (g w p : ℕ) → here ≡ hereIn c r (isRead (r .direction)) → now (block .entry) ≡ blockAt c d g w p → now (block .exit) ≡ blockAt c (begun r d) g w p) ⌝ }
 {
-    block[FLAGS] = numbers::flag_number(here.reading);
+    block[MARKS] = numbers::flag_number(here.reading);
     block[LEFT] = (here.length % 256) as u8;
     block[LEFT + 1] = (here.length / 256) as u8;
     block[PLACE] = (here.before % 256) as u8;
@@ -143,7 +143,7 @@ pub fn next_run(block: &mut [u8])
     ensures { λ _. ⌜ Puts (now (block .entry)) (now (block .exit)) nextRun kept kept kept ⌝ }
 {
     let run = next16(word_at(block, RUN));
-    block[FLAGS] = 0;
+    block[MARKS] = 0;
     block[RUN] = (run % 256) as u8;
     block[RUN + 1] = (run / 256) as u8;
     block[LEFT] = 0;

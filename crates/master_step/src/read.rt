@@ -20,19 +20,19 @@ use registers::Register;
 use registers::bits;
 use registers::word;
 
-fn fits_recv(here: Here, left: u16, what: u8, part: u8) -> bool
-    ensures { λ r. ⌜ r ≡ eqb what 0 && (ltb part 2 && receivingIn here left) ⌝ }
+fn fits_recv(here: Here, left: u16, what: u8, phase: u8) -> bool
+    ensures { λ r. ⌜ r ≡ eqb what 0 && (ltb phase 2 && receivingIn here left) ⌝ }
 {
-    (what == 0) & ((part < 2) & here::receiving(here, left))
+    (what == 0) & ((phase < 2) & here::receiving(here, left))
 }
 
 // while { check_and_clear_error_flags()?; !star1.read().rx_ne() } { timeout.check()? }, and then datar.read(): RXNE is tested in a
 // second word.
-fn recv_part(block: &mut [u8], here: Here, left: u16, part: u8, answer: u16) -> u64
+fn recv_phase(block: &mut [u8], here: Here, left: u16, phase: u8, answer: u16) -> u64
     requires { ⌜ length (now block) ≡ blockSize ⌝ }
-    ensures { λ r. ⌜ Within 6 0 here left (now (block .entry)) (now (block .exit)) r (λ (g : Setting) (run : Run) (d : Progress). recvByte g run (recvStageOf part) d answer) ⌝ }
+    ensures { λ r. ⌜ Within 6 0 here left (now (block .entry)) (now (block .exit)) r (λ (g : Setting) (run : Run) (d : Progress). recvByte g run (recvStageOf phase) d answer) ⌝ }
 {
-    if part == stage::RECV_STATUS {
+    if phase == stage::RECV_STATUS {
         if !word::bit(answer, bits::RXNE) {
             put::to(block, stage::WAIT, stage::RXNE, stage::WAIT_CLOCK);
             return asked::clock();
@@ -44,14 +44,14 @@ fn recv_part(block: &mut [u8], here: Here, left: u16, part: u8, answer: u16) -> 
     go::read_bytes(block, here, rest)
 }
 
-pub fn recv_byte(block: &mut [u8], here: Here, left: u16, what: u8, part: u8, answer: u16) -> u64
+pub fn recv_byte(block: &mut [u8], here: Here, left: u16, what: u8, phase: u8, answer: u16) -> u64
     requires { ⌜ length (now block) ≡ blockSize ⌝ }
-    ensures { λ r. ⌜ Group 6 here left what part answer (now (block .entry)) (now (block .exit)) r ⌝ }
+    ensures { λ r. ⌜ Group 6 here left what phase answer (now (block .entry)) (now (block .exit)) r ⌝ }
 {
-    if !fits_recv(here, left, what, part) {
+    if !fits_recv(here, left, what, phase) {
         return asked::refused();
     }
-    recv_part(block, here, left, part, answer)
+    recv_phase(block, here, left, phase, answer)
 }
 
 // One or two bytes are read, with NACK.
@@ -82,10 +82,10 @@ fn read_closing(here: Here, left: u16) -> bool
     here.reading & here::closing(here, left)
 }
 
-fn fits_read(here: Here, left: u16, part: u8) -> bool
-    ensures { λ r. ⌜ r ≡ ltb part 14 && fitsReadIn here left (readStageOf part) ⌝ }
+fn fits_read(here: Here, left: u16, phase: u8) -> bool
+    ensures { λ r. ⌜ r ≡ ltb phase 14 && fitsReadIn here left (readStageOf phase) ⌝ }
 {
-    match part {
+    match phase {
         stage::POS_WRITE => here.reading & (left == here.length),
         stage::ACK_READ => short_nack(here, left),
         stage::ACK_WRITE => short_nack(here, left),
@@ -105,11 +105,11 @@ fn fits_read(here: Here, left: u16, part: u8) -> bool
 }
 
 // The read's own accesses: POS and ACK, the START behind it, and the bytes that BTF tells of.
-fn read_part(block: &mut [u8], here: Here, left: u16, part: u8, answer: u16) -> u64
+fn read_phase(block: &mut [u8], here: Here, left: u16, phase: u8, answer: u16) -> u64
     requires { ⌜ length (now block) ≡ blockSize ⌝ }
-    ensures { λ r. ⌜ Within 7 0 here left (now (block .entry)) (now (block .exit)) r (λ (g : Setting) (run : Run) (d : Progress). blockingReadIter g run (readStageOf part) d answer) ⌝ }
+    ensures { λ r. ⌜ Within 7 0 here left (now (block .entry)) (now (block .exit)) r (λ (g : Setting) (run : Run) (d : Progress). blockingReadIter g run (readStageOf phase) d answer) ⌝ }
 {
-    match part {
+    match phase {
         // ctlr1.modify(set_pos(remaining == 2 && send_nack)) is done.
         stage::POS_WRITE => {
             if here.start {
@@ -181,14 +181,14 @@ pub fn blocking_read_iter(
     here: Here,
     left: u16,
     what: u8,
-    part: u8,
+    phase: u8,
     answer: u16,
 ) -> u64
     requires { ⌜ length (now block) ≡ blockSize ⌝ }
-    ensures { λ r. ⌜ Group 7 here left what part answer (now (block .entry)) (now (block .exit)) r ⌝ }
+    ensures { λ r. ⌜ Group 7 here left what phase answer (now (block .entry)) (now (block .exit)) r ⌝ }
 {
-    if !((what == 0) & fits_read(here, left, part)) {
+    if !((what == 0) & fits_read(here, left, phase)) {
         return asked::refused();
     }
-    read_part(block, here, left, part, answer)
+    read_phase(block, here, left, phase, answer)
 }

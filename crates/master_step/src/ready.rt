@@ -22,7 +22,7 @@ fn counts(block: &[u8], here: Here, left: u16) -> bool
     ensures { λ t. ⌜ ((c : Call) (r : Run) (d : Progress) (g w p : ℕ) → now (block .entry) ≡ blockAt c d g w p → here ≡ hereIn c r (isRead (r .direction)) → left ≡ d .left → t ≡ counts r d) ⌝ }
 {
     let place = put::word_at(block, put::PLACE);
-    (block[put::FLAGS] == numbers::flag_number(here.reading))
+    (block[put::MARKS] == numbers::flag_number(here.reading))
         & ((left <= here.length)
             & (place as u32 + left as u32 == here.before as u32 + here.length as u32))
 }

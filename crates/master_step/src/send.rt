@@ -12,18 +12,18 @@ use crate::put;
 use crate::stage;
 use registers::Register;
 
-fn fits_send(here: Here, left: u16, what: u8, part: u8) -> bool
-    ensures { λ r. ⌜ r ≡ eqb what 0 && (eqb part 0 && sendingIn here left) ⌝ }
+fn fits_send(here: Here, left: u16, what: u8, phase: u8) -> bool
+    ensures { λ r. ⌜ r ≡ eqb what 0 && (eqb phase 0 && sendingIn here left) ⌝ }
 {
-    (what == 0) & ((part == 0) & here::sending(here, left))
+    (what == 0) & ((phase == 0) & here::sending(here, left))
 }
 
 // The byte is out: BTF is waited for. Nothing is read, so there is no answer to look at.
-pub fn send_byte(block: &mut [u8], here: Here, left: u16, what: u8, part: u8, answer: u16) -> u64
+pub fn send_byte(block: &mut [u8], here: Here, left: u16, what: u8, phase: u8, answer: u16) -> u64
     requires { ⌜ length (now block) ≡ blockSize ⌝ }
-    ensures { λ r. ⌜ Group 5 here left what part answer (now (block .entry)) (now (block .exit)) r ⌝ }
+    ensures { λ r. ⌜ Group 5 here left what phase answer (now (block .entry)) (now (block .exit)) r ⌝ }
 {
-    if !fits_send(here, left, what, part) {
+    if !fits_send(here, left, what, phase) {
         return asked::refused();
     }
     put::to(block, stage::WAIT, stage::SENT, stage::WAIT_STATUS);

@@ -56,19 +56,19 @@ pub fn wait_stop_finished(
     here: Here,
     left: u16,
     what: u8,
-    part: u8,
+    phase: u8,
     answer: u16,
 ) -> u64
     requires { ⌜ length (now block) ≡ blockSize ⌝ }
-    ensures { λ r. ⌜ Group 1 here left what part answer (now (block .entry)) (now (block .exit)) r ⌝ }
+    ensures { λ r. ⌜ Group 1 here left what phase answer (now (block .entry)) (now (block .exit)) r ⌝ }
 {
     if !fits_fall(here, left, what) {
         return asked::refused();
     }
-    match part {
+    match phase {
         stage::FALL_CONTROL => {
             if word::bit(answer, bits::STOP) {
-                put::part(block, stage::FALL_CLOCK);
+                put::phase(block, stage::FALL_CLOCK);
                 return asked::clock();
             }
             fallen(block, here, left, what)
@@ -77,7 +77,7 @@ pub fn wait_stop_finished(
             if next::late(answer) {
                 return go::fails(block, ending::failure_of(Error::Timeout));
             }
-            put::part(block, stage::FALL_CONTROL);
+            put::phase(block, stage::FALL_CONTROL);
             asked::read(Register::Ctlr1)
         }
         _ => asked::refused(),
@@ -85,17 +85,17 @@ pub fn wait_stop_finished(
 }
 
 // if ctlr1.read().start() || star1.read().sb() { return }, and else ctlr1.modify(start, and ack for a read)
-fn launch_part(block: &mut [u8], here: Here, left: u16, part: u8, answer: u16) -> u64
+fn launch_phase(block: &mut [u8], here: Here, left: u16, phase: u8, answer: u16) -> u64
     requires { ⌜ length (now block) ≡ blockSize ⌝ }
-    ensures { λ r. ⌜ Within 2 0 here left (now (block .entry)) (now (block .exit)) r (λ (_ : Setting) (_ : Run) (d : Progress). launchStart (launchStageOf part) d answer) ⌝ }
+    ensures { λ r. ⌜ Within 2 0 here left (now (block .entry)) (now (block .exit)) r (λ (_ : Setting) (_ : Run) (d : Progress). launchStart (launchStageOf phase) d answer) ⌝ }
 {
-    match part {
+    match phase {
         stage::LAUNCH_CONTROL => {
             if word::bit(answer, bits::START) {
                 put::to(block, stage::WAIT, stage::SB, stage::WAIT_STATUS);
                 return asked::read(Register::Star1);
             }
-            put::part(block, stage::LAUNCH_STATUS);
+            put::phase(block, stage::LAUNCH_STATUS);
             asked::read(Register::Star1)
         }
         stage::LAUNCH_STATUS => {
@@ -103,7 +103,7 @@ fn launch_part(block: &mut [u8], here: Here, left: u16, part: u8, answer: u16) -
                 put::to(block, stage::WAIT, stage::SB, stage::WAIT_STATUS);
                 return asked::read(Register::Star1);
             }
-            put::part(block, stage::LAUNCH_READ);
+            put::phase(block, stage::LAUNCH_READ);
             asked::read(Register::Ctlr1)
         }
         stage::LAUNCH_READ => {
@@ -121,12 +121,12 @@ fn launch_part(block: &mut [u8], here: Here, left: u16, part: u8, answer: u16) -
     }
 }
 
-pub fn launch_start(block: &mut [u8], here: Here, left: u16, what: u8, part: u8, answer: u16) -> u64
+pub fn launch_start(block: &mut [u8], here: Here, left: u16, what: u8, phase: u8, answer: u16) -> u64
     requires { ⌜ length (now block) ≡ blockSize ⌝ }
-    ensures { λ r. ⌜ Group 2 here left what part answer (now (block .entry)) (now (block .exit)) r ⌝ }
+    ensures { λ r. ⌜ Group 2 here left what phase answer (now (block .entry)) (now (block .exit)) r ⌝ }
 {
-    if !here::fits_starting(here, left, what, part) {
+    if !here::fits_starting(here, left, what, phase) {
         return asked::refused();
     }
-    launch_part(block, here, left, part, answer)
+    launch_phase(block, here, left, phase, answer)
 }

@@ -23,23 +23,23 @@ pub fn step(
     left: u16,
     group: u8,
     what: u8,
-    part: u8,
+    phase: u8,
     answer: u16,
 ) -> u64
     requires { ⌜ length (now block) ≡ blockSize ⌝ }
-    ensures { λ r. ⌜ Step group here left what part answer (now (block .entry)) (now (block .exit)) r ⌝ }
+    ensures { λ r. ⌜ Step group here left what phase answer (now (block .entry)) (now (block .exit)) r ⌝ }
 {
     match group {
-        stage::BEGIN => begin::begins(block, here, left, what, part, answer),
-        stage::WAIT_STOP => start::wait_stop_finished(block, here, left, what, part, answer),
-        stage::LAUNCH_START => start::launch_start(block, here, left, what, part, answer),
-        stage::WAIT => wait::wait_flag(block, here, left, what, part, answer),
-        stage::ADDRESS => address::address_phase(block, here, left, what, part, answer),
-        stage::SEND_BYTE => send::send_byte(block, here, left, what, part, answer),
-        stage::RECV_BYTE => read::recv_byte(block, here, left, what, part, answer),
-        stage::READ_ITER => read::blocking_read_iter(block, here, left, what, part, answer),
-        stage::GENERATE_STOP => stop::generate_stop(block, here, left, what, part, answer),
-        stage::ABORT => abort::abort_transfer(block, what, part, answer),
+        stage::BEGIN => begin::begins(block, here, left, what, phase, answer),
+        stage::WAIT_STOP => start::wait_stop_finished(block, here, left, what, phase, answer),
+        stage::LAUNCH_START => start::launch_start(block, here, left, what, phase, answer),
+        stage::WAIT => wait::wait_flag(block, here, left, what, phase, answer),
+        stage::ADDRESS => address::address_phase(block, here, left, what, phase, answer),
+        stage::SEND_BYTE => send::send_byte(block, here, left, what, phase, answer),
+        stage::RECV_BYTE => read::recv_byte(block, here, left, what, phase, answer),
+        stage::READ_ITER => read::blocking_read_iter(block, here, left, what, phase, answer),
+        stage::GENERATE_STOP => stop::generate_stop(block, here, left, what, phase, answer),
+        stage::ABORT => abort::abort_transfer(block, what, phase, answer),
         _ => asked::refused(),
     }
 }
@@ -52,9 +52,9 @@ pub fn step_in(block: &mut [u8], here: Here, answer: u16) -> u64
     let left = put::word_at(block, put::LEFT);
     let group = block[put::GROUP];
     let what = block[put::WHAT];
-    let part = block[put::PART];
+    let phase = block[put::PHASE];
     if !ready::is_ready(block, here, left, group) {
         return asked::refused();
     }
-    step(block, here, left, group, what, part, answer)
+    step(block, here, left, group, what, phase, answer)
 }

@@ -56,16 +56,16 @@ pub fn generate_stop(
     here: Here,
     left: u16,
     what: u8,
-    part: u8,
+    phase: u8,
     answer: u16,
 ) -> u64
     requires { ⌜ length (now block) ≡ blockSize ⌝ }
-    ensures { λ r. ⌜ Group 8 here left what part answer (now (block .entry)) (now (block .exit)) r ⌝ }
+    ensures { λ r. ⌜ Group 8 here left what phase answer (now (block .entry)) (now (block .exit)) r ⌝ }
 {
     if !fits_stop(here, left, what) {
         return asked::refused();
     }
-    match part {
+    match phase {
         stage::HALF_READ => go::modifies(
             block,
             stage::HALF_WRITE,

@@ -110,7 +110,7 @@ fn tests(block: &mut [u8], here: Here, left: u16, what: u8, status: u16) -> u64
     ensures { λ r. ⌜ Waits what here left (now (block .entry)) (now (block .exit)) r (λ (g : Setting) (run : Run) (f : Flag) (d : Progress). tests g run f d status) ⌝ }
 {
     if !is_set(what, status) {
-        put::part(block, stage::WAIT_CLOCK);
+        put::phase(block, stage::WAIT_CLOCK);
         return asked::clock();
     }
     waited(block, here, left, what)
@@ -153,21 +153,21 @@ fn judged(block: &mut [u8], here: Here, left: u16, what: u8) -> u64
     }
 }
 
-pub fn wait_flag(block: &mut [u8], here: Here, left: u16, what: u8, part: u8, answer: u16) -> u64
+pub fn wait_flag(block: &mut [u8], here: Here, left: u16, what: u8, phase: u8, answer: u16) -> u64
     requires { ⌜ length (now block) ≡ blockSize ⌝ }
-    ensures { λ r. ⌜ Group 3 here left what part answer (now (block .entry)) (now (block .exit)) r ⌝ }
+    ensures { λ r. ⌜ Group 3 here left what phase answer (now (block .entry)) (now (block .exit)) r ⌝ }
 {
     if !fits_wait(here, left, what) {
         return asked::refused();
     }
-    match part {
+    match phase {
         stage::WAIT_STATUS => check_and_clear_error_flags(block, here, left, what, answer),
         stage::WAIT_CLEAR => judged(block, here, left, what),
         stage::WAIT_CLOCK => {
             if next::late(answer) {
                 return go::fails(block, ending::failure_of(Error::Timeout));
             }
-            put::part(block, stage::WAIT_STATUS);
+            put::phase(block, stage::WAIT_STATUS);
             asked::read(Register::Star1)
         }
         _ => asked::refused(),

@@ -9,7 +9,7 @@ use lib.Dec.{eqb, leb, ltb}
 use lib.ListN.{length, getD}
 use borrow.Author.Tests.{eqb-true, ne-eqb, lt-ltb, le-leb, lt-leb, leb-true}
 use Rattle.access.specs.declared.ending.Error.{Error}
-use Rattle.access.specs.Endings.{errorOf, returned, failed, endingOf, isDone, hasFailed}
+use Rattle.access.specs.Endings.{errorOf, returned, failed, endingOf, isDone, hasFailed, endingError, endingValue}
 use Rattle.access.specs.declared.need.Need.the-variants as need
 use Rattle.access.specs.Machine.{isEnd}
 use Rattle.access.proofs.Choice.{first-true, second-true, both-true}
@@ -19,7 +19,7 @@ use Rattle.block.specs.Bytes32.{fieldsOf, bytesOf, Bytes}
 use Rattle.block.proofs.Codec.{same-said, bytes-back}
 use Rattle.images.specs.declared.slave_image.SlaveFound.{SlaveFound}
 use Rattle.images.specs.declared.slave_image.SlaveFound.the-variants.{At, Nothing}
-use Rattle.images.specs.Numbers.{chipOf, endingError, endingValue, isChip, isEnding}
+use Rattle.images.specs.Numbers.{chipOf, isChip, isEnding}
 use Rattle.images.specs.SlaveImage.{isKind, slaveOf, slaveIn, unusedEmpty, isCall}
 use Rattle.images.proofs.NumberRanges.{done-range, failed-range}
 use Rattle.images.proofs.SlaveImageRanges.{found, no-ending, no-stage, no-call}
@@ -40,7 +40,7 @@ use Rattle.slave.specs.declared.state.Setting.{Setting}
 use Rattle.slave.specs.Fits.{isListen, isRespondToWrite, isRespondToRead, counts, returns, returnsIn, runs, closes, fitsAt, fits}
 use Rattle.slave.specs.Machine.{owedAt, advanceAt}
 use Rattle.slave.specs.Steps.{settingIn, fitsLent, isOpen}
-use Rattle.stage_numbers.specs.SlaveStage.{isStage, stageOf, stageGroup, stageWhat, stagePart}
+use Rattle.stage_numbers.specs.SlaveStage.{isStage, stageOf, stageGroup, stageWhat, stagePhase}
 use Rattle.stage_numbers.proofs.Compared.{turned, itself, with-true, reordered}
 use Rattle.slave_step.specs.Held.{fieldsAt, blockAt, settingAt, closing, endsAt, readyAt, Refuses, Steps, Step, StepsFrom}
 use Rattle.slave_step.proofs.Laws.{refuses}
@@ -49,17 +49,17 @@ use Rattle.slave_step.proofs.ReadyLaws.{failed-told}
 -- ---- a block whose numbers beside the stage's are a call's is the block of the call and the progress that it tells
 
 module _ (f : Fields) (size : ℕ) where
-  same-call : sameFields (fieldsAt (settingIn (slaveOf f) size) (slaveOf f .progress) (f .stage) (f .what) (f .part)) f ≡ isCall f && (true && isEnding (f .error) (f .value))
+  same-call : sameFields (fieldsAt (settingIn (slaveOf f) size) (slaveOf f .progress) (f .stage) (f .what) (f .phase)) f ≡ isCall f && (true && isEnding (f .error) (f .value))
   unfolding sameFields fieldsAt slaveOf isCall isKind isChip isEnding unusedEmpty
   same-call =
-      rw (itself (f .stage), itself (f .what), itself (f .part), itself (f .word), itself (f .count), turned 0 (f .option), turned 0 (f .run), turned 0 (f .left), turned 0 (f .place), turned 0 (f .divider), turned 0 (f .rise), turned 0 (f .flags), turned 0 (f .address), turned 0 (f .second), turned 0 (f .mhz), turned 0 (f .unused), with-true (eqb (f .address) 0))
+      rw (itself (f .stage), itself (f .what), itself (f .phase), itself (f .word), itself (f .count), turned 0 (f .option), turned 0 (f .run), turned 0 (f .left), turned 0 (f .place), turned 0 (f .divider), turned 0 (f .rise), turned 0 (f .marks), turned 0 (f .address), turned 0 (f .second), turned 0 (f .mhz), turned 0 (f .unused), with-true (eqb (f .address) 0))
       (reordered (isKind (f .entry)) (eqb (f .option) 0) (isChip (f .chip)) true (isEnding (f .error) (f .value)) (unusedEmpty f))
 
-  fields-same : isCall f ≡ true → isEnding (f .error) (f .value) ≡ true → fieldsAt (settingIn (slaveOf f) size) (slaveOf f .progress) (f .stage) (f .what) (f .part) ≡ f
+  fields-same : isCall f ≡ true → isEnding (f .error) (f .value) ≡ true → fieldsAt (settingIn (slaveOf f) size) (slaveOf f .progress) (f .stage) (f .what) (f .phase) ≡ f
   fields-same c e = same-said _ f (same-call ∙ both-true c e)
 
 pub block-told : (b : List ℕ) (size : ℕ) → length b ≡ 32 → Bytes b → isCall (fieldsOf b) ≡ true → isEnding (fieldsOf b .error) (fieldsOf b .value) ≡ true
-    → b ≡ blockAt (settingIn (slaveOf (fieldsOf b)) size) (slaveOf (fieldsOf b) .progress) (fieldsOf b .stage) (fieldsOf b .what) (fieldsOf b .part)
+    → b ≡ blockAt (settingIn (slaveOf (fieldsOf b)) size) (slaveOf (fieldsOf b) .progress) (fieldsOf b .stage) (fieldsOf b .what) (fieldsOf b .phase)
 unfolding blockAt
 block-told b size n bytes c e = sym (bytes-back b n bytes) ∙ ap bytesOf (sym (fields-same (fieldsOf b) size c e))
 
@@ -90,7 +90,7 @@ module _ (a c : Bool) (x : Kind) (size count n v : ℕ) (k : n < 256) where
           let met : hasFailed (failed (errorOf n)) ≡ true = met-only a c x size count (errorOf n) (rw failing at h) in
           let within : n ≤ 6 = leb-true n 6 (second-true (ltb 0 n) (leb n 6) (failed-told n v k ∙ ap hasFailed failing ∙ met)) in
           let none : eqb v 0 ≡ true = rw z at e in
-          sym (failed-range n v k z (ne-eqb n 7 (λ q. omega arith))) ∙ both-true (lt-ltb n 17 (omega arith)) none
+          sym (failed-range n v k z (ne-eqb n 7 (λ q. omega arith))) ∙ both-true (lt-ltb n 28 (omega arith)) none
 
 -- ---- a stage that fits and has not ended is ready
 
@@ -149,13 +149,13 @@ module _ (g : Setting) (d : Progress) where
 module _ (n w p : ℕ) (e : isStage n w p ≡ true) where
   group-told : stageGroup (stageOf n w p) ≡ n
   unfolding isStage
-  group-told = eqb-true _ _ (first-true (eqb (stageGroup (stageOf n w p)) n) (eqb (stageWhat (stageOf n w p)) w && eqb (stagePart (stageOf n w p)) p) e)
+  group-told = eqb-true _ _ (first-true (eqb (stageGroup (stageOf n w p)) n) (eqb (stageWhat (stageOf n w p)) w && eqb (stagePhase (stageOf n w p)) p) e)
 
   what-told : stageWhat (stageOf n w p) ≡ w
   unfolding isStage
   what-told =
-      eqb-true _ _ (first-true (eqb (stageWhat (stageOf n w p)) w) (eqb (stagePart (stageOf n w p)) p)
-      (second-true (eqb (stageGroup (stageOf n w p)) n) (eqb (stageWhat (stageOf n w p)) w && eqb (stagePart (stageOf n w p)) p) e))
+      eqb-true _ _ (first-true (eqb (stageWhat (stageOf n w p)) w) (eqb (stagePhase (stageOf n w p)) p)
+      (second-true (eqb (stageGroup (stageOf n w p)) n) (eqb (stageWhat (stageOf n w p)) w && eqb (stagePhase (stageOf n w p)) p) e))
 
 -- ---- what is found
 
@@ -198,11 +198,11 @@ module _ (size a : ℕ) (b after : List ℕ) (asked : ℕ) where
     abbrev From : SlaveFound → Type 0
     From x = StepsFrom x size a b after asked
 
-    by-numbers : (isCall f ≡ false → Refuses b after asked) → (isStage (f .stage) (f .what) (f .part) ≡ false → Refuses b after asked) → (isEnding (f .error) (f .value) ≡ false → Refuses b after asked)
-        → (isCall f ≡ true → isStage (f .stage) (f .what) (f .part) ≡ true → isEnding (f .error) (f .value) ≡ true → From (At (slaveOf f))) → From (slaveIn f)
+    by-numbers : (isCall f ≡ false → Refuses b after asked) → (isStage (f .stage) (f .what) (f .phase) ≡ false → Refuses b after asked) → (isEnding (f .error) (f .value) ≡ false → Refuses b after asked)
+        → (isCall f ≡ true → isStage (f .stage) (f .what) (f .phase) ≡ true → isEnding (f .error) (f .value) ≡ true → From (At (slaveOf f))) → From (slaveIn f)
     by-numbers nc ns ne is-there =
         either-way (isCall f)
-        (λ c. either-way (isStage (f .stage) (f .what) (f .part))
+        (λ c. either-way (isStage (f .stage) (f .what) (f .phase))
         (λ s. either-way (isEnding (f .error) (f .value)) (λ e. subst From (found f c s e) (is-there c s e)) (λ e. subst From (no-ending f c s e) (ne e)))
         (λ s. subst From (no-stage f c s) (ns s)))
         (λ c. subst From (no-call f c) (nc c))
@@ -214,18 +214,18 @@ module _ (size a : ℕ) (b after : List ℕ) (asked : ℕ) where
         (λ e. subst (λ (t : Bool). From (cond t (slaveIn f) Nothing)) (sym e) (other e))
 
     -- the state that the numbers say is not open where they are not ready
-    unready : isStage (f .stage) (f .what) (f .part) ≡ true → readyAt (settingIn (slaveOf f) size) (slaveOf f .progress) (f .stage) (f .what) ≡ false → isOpen (slaveOf f) size ≡ false
+    unready : isStage (f .stage) (f .what) (f .phase) ≡ true → readyAt (settingIn (slaveOf f) size) (slaveOf f .progress) (f .stage) (f .what) ≡ false → isOpen (slaveOf f) size ≡ false
     unfolding fitsLent fits slaveOf
     unready s short =
         let g : Setting = settingIn (slaveOf f) size in
         let d : Progress = slaveOf f .progress in
-        let st : Stage = stageOf (f .stage) (f .what) (f .part) in
+        let st : Stage = stageOf (f .stage) (f .what) (f .phase) in
         not-true (isOpen (slaveOf f) size)
         (λ e.
         let lent : leb size 65535 && fitsAt g st d ≡ true = first-true (leb size 65535 && fitsAt g st d) (not (isEnd (owedAt g st d))) e in
         let open-still : not (isEnd (owedAt g st d)) ≡ true = second-true (leb size 65535 && fitsAt g st d) (not (isEnd (owedAt g st d))) e in
         let ready : readyAt g d (stageGroup st) (stageWhat st) ≡ true = fits-ready g d st open-still (second-true (leb size 65535) (fitsAt g st d) lent) in
-        true≢false (sym ready ∙ ap (λ (n : ℕ). readyAt g d n (stageWhat st)) (group-told (f .stage) (f .what) (f .part) s) ∙ ap (λ (n : ℕ). readyAt g d (f .stage) n) (what-told (f .stage) (f .what) (f .part) s) ∙ short))
+        true≢false (sym ready ∙ ap (λ (n : ℕ). readyAt g d n (stageWhat st)) (group-told (f .stage) (f .what) (f .phase) s) ∙ ap (λ (n : ℕ). readyAt g d (f .stage) n) (what-told (f .stage) (f .what) (f .phase) s) ∙ short))
 
     module _ (entry count value : ℕ) (call ready : Bool) (call-is : call ≡ eqb (f .entry) entry && isCall f) (value-is : value ≡ f .value) (ready-is : ready ≡ readyAt (settingAt (chipOf (f .chip)) entry size) (slaveOf f .progress) (f .stage) (f .what)) where
       ready-by : eqb (f .entry) entry ≡ true → ready ≡ readyAt (settingIn (slaveOf f) size) (slaveOf f .progress) (f .stage) (f .what)
@@ -244,8 +244,8 @@ module _ (size a : ℕ) (b after : List ℕ) (asked : ℕ) where
           refuses (unready s (sym (ready-by n) ∙ not-ready)) r))
 
       -- they find a state, whose step it is
-      pub stepped : size ≤ 65535 → f .error < 256 → count ≡ f .count → (isCall f ≡ true → isEnding (f .error) (f .value) ≡ true → b ≡ blockAt (settingIn (slaveOf f) size) (slaveOf f .progress) (f .stage) (f .what) (f .part))
-          → call && ((eqb (f .error) 0 || eqb value 0) && ready) ≡ true → Step (f .stage) entry size count (f .what) (f .part) a b after asked → From (cond (eqb (f .entry) entry) (slaveIn f) Nothing)
+      pub stepped : size ≤ 65535 → f .error < 256 → count ≡ f .count → (isCall f ≡ true → isEnding (f .error) (f .value) ≡ true → b ≡ blockAt (settingIn (slaveOf f) size) (slaveOf f .progress) (f .stage) (f .what) (f .phase))
+          → call && ((eqb (f .error) 0 || eqb value 0) && ready) ≡ true → Step (f .stage) entry size count (f .what) (f .phase) a b after asked → From (cond (eqb (f .entry) entry) (slaveIn f) Nothing)
       unfolding fitsLent fits slaveOf
       stepped small byte count-is held test step =
           let called : eqb (f .entry) entry && isCall f ≡ true = sym call-is ∙ first-true call ((eqb (f .error) 0 || eqb value 0) && ready) test in
@@ -255,12 +255,12 @@ module _ (size a : ℕ) (b after : List ℕ) (asked : ℕ) where
           let plain : eqb (f .error) 0 || eqb (f .value) 0 ≡ true = ap (λ (v : ℕ). eqb (f .error) 0 || eqb v 0) (sym value-is) ∙ first-true (eqb (f .error) 0 || eqb value 0) ready tests in
           let g : Setting = settingIn (slaveOf f) size in
           let d : Progress = slaveOf f .progress in
-          let st : Stage = stageOf (f .stage) (f .what) (f .part) in
+          let st : Stage = stageOf (f .stage) (f .what) (f .phase) in
           let both : counts g d && endsAt g d (f .stage) (f .what) ≡ true = sym (ready-by n) ∙ second-true (eqb (f .error) 0 || eqb value 0) ready tests in
           let counted : counts g d ≡ true = first-true (counts g d) (endsAt g d (f .stage) (f .what)) both in
           let ending : endsAt g d (f .stage) (f .what) ≡ true = second-true (counts g d) (endsAt g d (f .stage) (f .what)) both in
           let e : isEnding (f .error) (f .value) ≡ true = ready-ending (closing (f .stage) (f .what)) (eqb (f .stage) 9) (g .kind) size (f .count) (f .error) (f .value) byte ending plain in
-          let steps : Steps (ltb (f .stage) 10 && (isStage (f .stage) (f .what) (f .part) && fitsAt g st d)) g (advanceAt g st d a) b after asked = subst (λ (m : ℕ). Step (f .stage) m size count (f .what) (f .part) a b after asked) (sym (eqb-true (f .entry) entry n)) step (chipOf (f .chip)) d (record { held = held c e; counted = counted; ending = ending }) count-is in
+          let steps : Steps (ltb (f .stage) 10 && (isStage (f .stage) (f .what) (f .phase) && fitsAt g st d)) g (advanceAt g st d a) b after asked = subst (λ (m : ℕ). Step (f .stage) m size count (f .what) (f .phase) a b after asked) (sym (eqb-true (f .entry) entry n)) step (chipOf (f .chip)) d (record { held = held c e; counted = counted; ending = ending }) count-is in
           by-entry entry (λ z. absurd (true≢false (sym n ∙ z)))
           (λ _. by-numbers (λ z. absurd (true≢false (sym c ∙ z))) (λ z. steps .refused (no-stage-fits (ltb (f .stage) 10) (fitsAt g st d) z)) (λ z. absurd (true≢false (sym e ∙ z)))
-          (λ _ s _. retest (in-order (fitsAt g st d) (le-leb size 65535 small) s (open-at g d st ∙ ap (λ (m : ℕ). ltb m 10) (group-told (f .stage) (f .what) (f .part) s))) steps))
+          (λ _ s _. retest (in-order (fitsAt g st d) (le-leb size 65535 small) s (open-at g d st ∙ ap (λ (m : ℕ). ltb m 10) (group-told (f .stage) (f .what) (f .phase) s))) steps))

@@ -11,10 +11,10 @@ use borrow.Author.Tests.{eqb-true, ne-eqb}
 use Rattle.access.specs.declared.ending.Ending.{Ending}
 use Rattle.access.specs.declared.ending.Ending.the-variants.{Done, Failed}
 use Rattle.access.specs.declared.need.Need.{Need}
-use Rattle.access.specs.Endings.{done, returned, isDone}
+use Rattle.access.specs.Endings.{done, returned, isDone, endingError, endingValue}
 use Rattle.access.proofs.Choice.{first-true}
 use Rattle.block.specs.Bytes32.{bytesOf, wordAt}
-use Rattle.images.specs.Numbers.{chipOf, endingError, endingValue}
+use Rattle.images.specs.Numbers.{chipOf}
 use Rattle.images.specs.SlaveImage.{kindOf, slaveFields}
 use Rattle.images.proofs.NumberLaws.{chip-back}
 use Rattle.slave.specs.declared.stage.Stage.{Stage}
@@ -26,16 +26,16 @@ use Rattle.slave.specs.declared.state.Setting.{Setting}
 use Rattle.slave.specs.Machine.{to, owedAt}
 use Rattle.slave.specs.Fits.{isListen, isRespondToWrite, isRespondToRead, counts, returns, returnsIn, runs, closes}
 use Rattle.slave.specs.Steps.{stateAt}
-use Rattle.stage_numbers.specs.SlaveStage.{stageGroup, stageWhat, stagePart}
+use Rattle.stage_numbers.specs.SlaveStage.{stageGroup, stageWhat, stagePhase}
 use Rattle.asked.specs.Asked.{Asks}
 use Rattle.slave_step.specs.Held.{fieldsAt, blockAt, Moves, Refuses, Steps}
 
 -- a block with the numbers of a stage is the state's
-image : (g : Setting) (d : Progress) (st : Stage) → blockAt g d (stageGroup st) (stageWhat st) (stagePart st) ≡ bytesOf (slaveFields (stateAt g (to st d)))
+image : (g : Setting) (d : Progress) (st : Stage) → blockAt g d (stageGroup st) (stageWhat st) (stagePhase st) ≡ bytesOf (slaveFields (stateAt g (to st d)))
 unfolding blockAt fieldsAt slaveFields
 image g d st = refl
 
-pub moves : {g : Setting} {after : List ℕ} {asked : ℕ} {st : Stage} {d : Progress} → after ≡ blockAt g d (stageGroup st) (stageWhat st) (stagePart st) → Asks asked (owedAt g st d) → Moves g (to st d) after asked
+pub moves : {g : Setting} {after : List ℕ} {asked : ℕ} {st : Stage} {d : Progress} → after ≡ blockAt g d (stageGroup st) (stageWhat st) (stagePhase st) → Asks asked (owedAt g st d) → Moves g (to st d) after asked
 moves {g} {st = st} {d = d} e n = record { block = e ∙ image g d st; owed = n }
 
 pub takes : {t : Bool} {g : Setting} {m : Move} {before after : List ℕ} {asked : ℕ} → t ≡ true → Moves g m after asked → Steps t g m before after asked

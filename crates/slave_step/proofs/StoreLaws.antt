@@ -35,7 +35,7 @@ use Rattle.slave.specs.declared.state.Setting.{Setting}
 use Rattle.slave.specs.declared.state.State.{State}
 use Rattle.slave.specs.Machine.{owedAt, advanceAt}
 use Rattle.slave.specs.Steps.{settingIn, needOf, isOpen}
-use Rattle.stage_numbers.specs.SlaveStage.{stageOf, stageGroup, stageWhat, stagePart}
+use Rattle.stage_numbers.specs.SlaveStage.{stageOf, stageGroup, stageWhat, stagePhase}
 use Rattle.stage_numbers.proofs.SlaveStageLaws.{stage-back}
 use Rattle.asked.specs.Asked.{Asks, isKeep}
 use Rattle.slave_step.specs.Held.{heldIn, StepsFrom, StoresFrom}
@@ -135,14 +135,14 @@ module _ (entry : ℕ) (b : List ℕ) (s : State) (e : heldIn entry b ≡ At s) 
   unfolding slaveFields fieldsOf
   count-of = ap (λ (f : Fields). f .count) (held-image entry b s e)
 
-module _ (entry : ℕ) (b after buffer : List ℕ) (size a asked n count : ℕ) (keeping : Bool) (count-is : count ≡ longAt b 24) (number : Asks n (need.End (failed InvalidState))) (kept-is : (chip : Chip) (x : Kind) (d : Progress) (what part : ℕ) → count ≡ d .count → keeping ≡ isKeep (owedAt (record { chip = chip; kind = x; size = size }) (stageOf (getD b 3 0) what part) d)) where
+module _ (entry : ℕ) (b after buffer : List ℕ) (size a asked n count : ℕ) (keeping : Bool) (count-is : count ≡ longAt b 24) (number : Asks n (need.End (failed InvalidState))) (kept-is : (chip : Chip) (x : Kind) (d : Progress) (what phase : ℕ) → count ≡ d .count → keeping ≡ isKeep (owedAt (record { chip = chip; kind = x; size = size }) (stageOf (getD b 3 0) what phase) d)) where
   place-of : (s : State) → heldIn entry b ≡ At s → count ≡ s .progress .count
   place-of s e = count-is ∙ sym (count-of entry b s e)
 
   keeping-of : (s : State) → heldIn entry b ≡ At s → keeping ≡ isKeep (needOf s size)
   keeping-of s e =
-      kept-is (s .chip) (s .kind) (s .progress) (stageWhat (s .stage)) (stagePart (s .stage)) (place-of s e)
-      ∙ ap (λ (m : ℕ). isKeep (owedAt (settingIn s size) (stageOf m (stageWhat (s .stage)) (stagePart (s .stage))) (s .progress))) (sym (group-of entry b s e))
+      kept-is (s .chip) (s .kind) (s .progress) (stageWhat (s .stage)) (stagePhase (s .stage)) (place-of s e)
+      ∙ ap (λ (m : ℕ). isKeep (owedAt (settingIn s size) (stageOf m (stageWhat (s .stage)) (stagePhase (s .stage))) (s .progress))) (sym (group-of entry b s e))
       ∙ ap (λ (st : Stage). isKeep (owedAt (settingIn s size) st (s .progress))) (stage-back (s .stage))
 
   pub stores : (x : SlaveFound) → heldIn entry b ≡ x → StepsFrom x size a b after asked → keeping && not (eqb asked n) ≡ true → StoresFrom x size a buffer (set buffer count (a % 256))

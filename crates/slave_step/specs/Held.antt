@@ -9,13 +9,13 @@ use lib.ListN.{length}
 use Rattle.registers.specs.declared.chip.Chip.{Chip}
 use Rattle.access.specs.declared.ending.Error.the-variants.{InvalidState}
 use Rattle.access.specs.declared.need.Need.the-variants as need
-use Rattle.access.specs.Endings.{done, failed, isDone, hasFailed}
+use Rattle.access.specs.Endings.{done, failed, isDone, hasFailed, endingError, endingValue}
 use Rattle.access.specs.Machine.{kept as stored}
 use Rattle.block.specs.declared.fields.Fields.{Fields}
 use Rattle.block.specs.Bytes32.{bytesOf, fieldsOf, blockSize}
 use Rattle.images.specs.declared.slave_image.SlaveFound.{SlaveFound}
 use Rattle.images.specs.declared.slave_image.SlaveFound.the-variants.{At, Nothing}
-use Rattle.images.specs.Numbers.{chipNumber, chipOf, endingError, endingValue}
+use Rattle.images.specs.Numbers.{chipNumber, chipOf}
 use Rattle.images.specs.SlaveImage.{kindEntry, kindOf, slaveFields, slaveIn}
 use Rattle.slave.specs.declared.state.Kind.{Kind}
 use Rattle.slave.specs.declared.state.Move.{Move}
@@ -29,24 +29,24 @@ use Rattle.asked.specs.Asked.{Asks}
 
 -- what a block says of the call g with the progress d, where these are the numbers of the stage
 unfoldable pub fieldsAt : Setting → Progress → ℕ → ℕ → ℕ → Fields
-fieldsAt g d group what part = record { entry = kindEntry (g .kind); chip = chipNumber (g .chip); option = 0; stage = group; what = what; part = part; flags = 0; error = endingError (d .ending); address = 0; run = 0; left = 0; place = 0; word = d .word; divider = 0; rise = 0; value = endingValue (d .ending); count = d .count; second = 0; mhz = 0; unused = 0 }
+fieldsAt g d group what phase = record { entry = kindEntry (g .kind); chip = chipNumber (g .chip); option = 0; stage = group; what = what; phase = phase; marks = 0; error = endingError (d .ending); address = 0; run = 0; left = 0; place = 0; word = d .word; divider = 0; rise = 0; value = endingValue (d .ending); count = d .count; second = 0; mhz = 0; unused = 0 }
 
 -- its bytes
 unfoldable pub blockAt : Setting → Progress → ℕ → ℕ → ℕ → List ℕ
-blockAt g d group what part = bytesOf (fieldsAt g d group what part)
+blockAt g d group what phase = bytesOf (fieldsAt g d group what phase)
 
 -- what a block says of a call that has done nothing yet, at the first stage of a group
 unfoldable pub begunFields : ℕ → ℕ → ℕ → Fields
-begunFields entry chip group = record { entry = entry; chip = chipNumber (chipOf chip); option = 0; stage = group; what = 0; part = 0; flags = 0; error = 0; address = 0; run = 0; left = 0; place = 0; word = 0; divider = 0; rise = 0; value = 0; count = 0; second = 0; mhz = 0; unused = 0 }
+begunFields entry chip group = record { entry = entry; chip = chipNumber (chipOf chip); option = 0; stage = group; what = 0; phase = 0; marks = 0; error = 0; address = 0; run = 0; left = 0; place = 0; word = 0; divider = 0; rise = 0; value = 0; count = 0; second = 0; mhz = 0; unused = 0 }
 
 -- where a call of a kind begins
 unfoldable pub firstFields : Kind → ℕ → Fields
 firstFields kind chip = slaveFields (stateAt (record { chip = chipOf chip; kind = kind; size = 0 }) (start kind))
 
 -- stores that change the progress as f says, and the numbers of the stage
-pub record Puts (before after : List ℕ) (f : Progress → Progress) (group what part : ℕ → ℕ) : Type 0 where
+pub record Puts (before after : List ℕ) (f : Progress → Progress) (group what phase : ℕ → ℕ) : Type 0 where
   pub size : length after ≡ blockSize
-  pub block : (g : Setting) (d : Progress) (n w p : ℕ) → before ≡ blockAt g d n w p → after ≡ blockAt g (f d) (group n) (what w) (part p)
+  pub block : (g : Setting) (d : Progress) (n w p : ℕ) → before ≡ blockAt g d n w p → after ≡ blockAt g (f d) (group n) (what w) (phase p)
 
 abbrev pub kept : ℕ → ℕ
 kept n = n
@@ -97,28 +97,28 @@ endsAt g d group what = cond (closing group what) (returns g d) (cond (eqb group
 
 -- what has to be seen before a step, whatever the numbers of the stage: the block is that of the call g with the progress d, the count is
 -- one that it can have, and the ending one of the group's
-pub record Ready (g : Setting) (d : Progress) (block : List ℕ) (group what part : ℕ) : Type 0 where
-  pub held : block ≡ blockAt g d group what part
+pub record Ready (g : Setting) (d : Progress) (block : List ℕ) (group what phase : ℕ) : Type 0 where
+  pub held : block ≡ blockAt g d group what phase
   pub counted : counts g d ≡ true
   pub ending : endsAt g d group what ≡ true
 
 -- of all such blocks it takes those that hold a stage of the group that fits, and goes where the machine goes; at any other it refuses
 abbrev pub Group : ℕ → ℕ → ℕ → ℕ → ℕ → ℕ → List ℕ → List ℕ → ℕ → Type 0
-Group group entry size what part a before after asked =
-    (chip : Chip) (d : Progress) → Ready (settingAt chip entry size) d before group what part
-    → Steps (isStage group what part && fitsAt (settingAt chip entry size) (stageOf group what part) d) (settingAt chip entry size) (advanceAt (settingAt chip entry size) (stageOf group what part) d a) before after asked
+Group group entry size what phase a before after asked =
+    (chip : Chip) (d : Progress) → Ready (settingAt chip entry size) d before group what phase
+    → Steps (isStage group what phase && fitsAt (settingAt chip entry size) (stageOf group what phase) d) (settingAt chip entry size) (advanceAt (settingAt chip entry size) (stageOf group what phase) d a) before after asked
 
 -- the same where the count was read before
 abbrev pub GroupCounting : ℕ → ℕ → ℕ → ℕ → ℕ → ℕ → ℕ → List ℕ → List ℕ → ℕ → Type 0
-GroupCounting group entry size count what part a before after asked =
-    (chip : Chip) (d : Progress) → Ready (settingAt chip entry size) d before group what part → count ≡ d .count
-    → Steps (isStage group what part && fitsAt (settingAt chip entry size) (stageOf group what part) d) (settingAt chip entry size) (advanceAt (settingAt chip entry size) (stageOf group what part) d a) before after asked
+GroupCounting group entry size count what phase a before after asked =
+    (chip : Chip) (d : Progress) → Ready (settingAt chip entry size) d before group what phase → count ≡ d .count
+    → Steps (isStage group what phase && fitsAt (settingAt chip entry size) (stageOf group what phase) d) (settingAt chip entry size) (advanceAt (settingAt chip entry size) (stageOf group what phase) d a) before after asked
 
 -- THE STEP, at any numbers of a stage: it is taken at a stage that fits and has not ended
 abbrev pub Step : ℕ → ℕ → ℕ → ℕ → ℕ → ℕ → ℕ → List ℕ → List ℕ → ℕ → Type 0
-Step group entry size count what part a before after asked =
-    (chip : Chip) (d : Progress) → Ready (settingAt chip entry size) d before group what part → count ≡ d .count
-    → Steps (ltb group 10 && (isStage group what part && fitsAt (settingAt chip entry size) (stageOf group what part) d)) (settingAt chip entry size) (advanceAt (settingAt chip entry size) (stageOf group what part) d a) before after asked
+Step group entry size count what phase a before after asked =
+    (chip : Chip) (d : Progress) → Ready (settingAt chip entry size) d before group what phase → count ≡ d .count
+    → Steps (ltb group 10 && (isStage group what phase && fitsAt (settingAt chip entry size) (stageOf group what phase) d)) (settingAt chip entry size) (advanceAt (settingAt chip entry size) (stageOf group what phase) d a) before after asked
 
 -- whether a block can hold a stage of the group, by its count and its ending
 abbrev pub readyAt : Setting → Progress → ℕ → ℕ → Bool

@@ -21,14 +21,14 @@ fn disable_slave_transfers(control: u16) -> u16
 }
 
 // disable_slave_transfers; then STOP, if the slave is still addressed.
-pub fn abort_slave_transfer(block: &mut [u8], what: u8, part: u8, answer: u16) -> u64
+pub fn abort_slave_transfer(block: &mut [u8], what: u8, phase: u8, answer: u16) -> u64
     requires { ⌜ length (now block) ≡ blockSize ⌝ }
-    ensures { λ r. ⌜ ((entry size : ℕ) → Group 9 entry size what part answer (now (block .entry)) (now (block .exit)) r) ⌝ }
+    ensures { λ r. ⌜ ((entry size : ℕ) → Group 9 entry size what phase answer (now (block .entry)) (now (block .exit)) r) ⌝ }
 {
-    if !((what == 0) & (part < 5)) {
+    if !((what == 0) & (phase < 5)) {
         return asked::refused();
     }
-    match part {
+    match phase {
         stage::DISABLE_READ => {
             let disabled = disable_slave_transfers(answer);
             go::modifies(
@@ -40,12 +40,12 @@ pub fn abort_slave_transfer(block: &mut [u8], what: u8, part: u8, answer: u16) -
             )
         }
         stage::DISABLE_WRITE => {
-            put::part(block, stage::BUSY);
+            put::phase(block, stage::BUSY);
             asked::read(Register::Star2)
         }
         stage::BUSY => {
             if word::bit(answer, bits::BUSY) & !word::bit(answer, bits::MSL) {
-                put::part(block, stage::STOP_READ);
+                put::phase(block, stage::STOP_READ);
                 return asked::read(Register::Ctlr1);
             }
             go::aborted(block)

@@ -14,18 +14,18 @@ use registers::flags;
 use registers::word;
 
 // regs.star1().read(); regs.ctlr1().modify(|_| {})
-pub fn clear_stopf(block: &mut [u8], entry: u8, what: u8, part: u8, answer: u16) -> u64
+pub fn clear_stopf(block: &mut [u8], entry: u8, what: u8, phase: u8, answer: u16) -> u64
     requires { ⌜ length (now block) ≡ blockSize ⌝ }
-    ensures { λ r. ⌜ ((size : ℕ) → Group 0 entry size what part answer (now (block .entry)) (now (block .exit)) r) ⌝ }
+    ensures { λ r. ⌜ ((size : ℕ) → Group 0 entry size what phase answer (now (block .entry)) (now (block .exit)) r) ⌝ }
 {
-    if !((part < 3)
+    if !((phase < 3)
         & (((what == stage::FOR_LISTEN) & (entry == numbers::LISTEN))
             | ((what == stage::FOR_END) & (entry != numbers::LISTEN)))) {
         return asked::refused();
     }
-    match part {
+    match phase {
         stage::STOPF_STATUS => {
-            put::part(block, stage::STOPF_READ);
+            put::phase(block, stage::STOPF_READ);
             asked::read(Register::Ctlr1)
         }
         stage::STOPF_READ => go::modifies(
@@ -46,19 +46,19 @@ pub fn clear_stopf(block: &mut [u8], entry: u8, what: u8, part: u8, answer: u16)
 }
 
 // Error flags of an earlier transfer are cleared.
-pub fn clear_slave_stale_flags(block: &mut [u8], entry: u8, what: u8, part: u8, answer: u16) -> u64
+pub fn clear_slave_stale_flags(block: &mut [u8], entry: u8, what: u8, phase: u8, answer: u16) -> u64
     requires { ⌜ length (now block) ≡ blockSize ⌝ }
-    ensures { λ r. ⌜ ((size : ℕ) → Group 1 entry size what part answer (now (block .entry)) (now (block .exit)) r) ⌝ }
+    ensures { λ r. ⌜ ((size : ℕ) → Group 1 entry size what phase answer (now (block .entry)) (now (block .exit)) r) ⌝ }
 {
-    if !((what == 0) & ((part < 2) & (entry == numbers::LISTEN))) {
+    if !((what == 0) & ((phase < 2) & (entry == numbers::LISTEN))) {
         return asked::refused();
     }
-    match part {
+    match phase {
         stage::STALE_STATUS => {
             let observed = flags::error_flags(answer);
             if observed != 0 {
                 put::saves(block, answer);
-                put::part(block, stage::STALE_CLEAR);
+                put::phase(block, stage::STALE_CLEAR);
                 return asked::write(Register::Star1, flags::clear_error(observed));
             }
             put::to(block, stage::ARM, 0, stage::BUFFER_READ);
@@ -72,15 +72,15 @@ pub fn clear_slave_stale_flags(block: &mut [u8], entry: u8, what: u8, part: u8, 
 }
 
 // regs.star1().modify(|reg| reg.set_af(false))
-pub fn clear_af(block: &mut [u8], entry: u8, what: u8, part: u8, answer: u16) -> u64
+pub fn clear_af(block: &mut [u8], entry: u8, what: u8, phase: u8, answer: u16) -> u64
     requires { ⌜ length (now block) ≡ blockSize ⌝ }
-    ensures { λ r. ⌜ ((size : ℕ) → Group 7 entry size what part answer (now (block .entry)) (now (block .exit)) r) ⌝ }
+    ensures { λ r. ⌜ ((size : ℕ) → Group 7 entry size what phase answer (now (block .entry)) (now (block .exit)) r) ⌝ }
 {
     if !((what == 0)
-        & ((part < 2) & ((entry != numbers::LISTEN) & (entry != numbers::RESPOND_TO_WRITE)))) {
+        & ((phase < 2) & ((entry != numbers::LISTEN) & (entry != numbers::RESPOND_TO_WRITE)))) {
         return asked::refused();
     }
-    match part {
+    match phase {
         stage::HALF_READ => go::modifies(
             block,
             stage::HALF_WRITE,

@@ -30,14 +30,14 @@ pub fn fails(block: &mut [u8], failure: Failure) -> u64
     asked::read(Register::Ctlr2)
 }
 
-// A register is changed: the word read is saved, and in this part of the stage the new one is written.
-pub fn modifies(block: &mut [u8], part: u8, old: u16, register: Register, new: u16) -> u64
+// A register is changed: the word read is saved, and in this phase of the stage the new one is written.
+pub fn modifies(block: &mut [u8], phase: u8, old: u16, register: Register, new: u16) -> u64
     requires { ⌜ length (now block) ≡ blockSize ⌝ }
-    ensures { λ _. ⌜ Puts (now (block .entry)) (now (block .exit)) (saves old) kept kept (λ (_ : ℕ). part) ⌝ }
+    ensures { λ _. ⌜ Puts (now (block .entry)) (now (block .exit)) (saves old) kept kept (λ (_ : ℕ). phase) ⌝ }
     ensures { λ r. ⌜ Asks r (need.Write register new) ⌝ }
 {
     put::saves(block, old);
-    put::part(block, part);
+    put::phase(block, phase);
     asked::write(register, new)
 }
 

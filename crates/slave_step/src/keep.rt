@@ -12,7 +12,7 @@ use crate::stage;
 // Whether the access that is owed at these numbers is a byte to keep, with so many bytes lent. Its place is the count; a byte past the
 // buffer is dropped.
 pub fn is_kept(group: u8, size: usize, count: u32) -> bool
-    ensures { λ r. ⌜ ((chip : Chip) (x : Kind) (d : Progress) (what part : ℕ) → count ≡ d .count → r ≡ isKeep (owedAt (record { chip = chip; kind = x; size = size }) (stageOf group what part) d)) ⌝ }
+    ensures { λ r. ⌜ ((chip : Chip) (x : Kind) (d : Progress) (what phase : ℕ) → count ≡ d .count → r ≡ isKeep (owedAt (record { chip = chip; kind = x; size = size }) (stageOf group what phase) d)) ⌝ }
 {
     (group == stage::RECEIVE) & ((count as usize) < size)
 }

@@ -16,14 +16,14 @@ use registers::fields;
 use registers::word;
 
 // regs.ctlr2().modify(|reg| reg.set_itbufen(false)); regs.ctlr1().modify(|reg| reg.set_ack(true))
-pub fn arms(block: &mut [u8], entry: u8, what: u8, part: u8, answer: u16) -> u64
+pub fn arms(block: &mut [u8], entry: u8, what: u8, phase: u8, answer: u16) -> u64
     requires { ⌜ length (now block) ≡ blockSize ⌝ }
-    ensures { λ r. ⌜ ((size : ℕ) → Group 2 entry size what part answer (now (block .entry)) (now (block .exit)) r) ⌝ }
+    ensures { λ r. ⌜ ((size : ℕ) → Group 2 entry size what phase answer (now (block .entry)) (now (block .exit)) r) ⌝ }
 {
-    if !((what == 0) & ((part < 4) & (entry == numbers::LISTEN))) {
+    if !((what == 0) & ((phase < 4) & (entry == numbers::LISTEN))) {
         return asked::refused();
     }
-    match part {
+    match phase {
         stage::BUFFER_READ => go::modifies(
             block,
             stage::BUFFER_WRITE,
@@ -32,7 +32,7 @@ pub fn arms(block: &mut [u8], entry: u8, what: u8, part: u8, answer: u16) -> u64
             word::clear_bit(answer, bits::ITBUFEN),
         ),
         stage::BUFFER_WRITE => {
-            put::part(block, stage::ACK_READ);
+            put::phase(block, stage::ACK_READ);
             asked::read(Register::Ctlr1)
         }
         stage::ACK_READ => go::modifies(
@@ -77,24 +77,24 @@ fn commanded(star2: u16, address: u16) -> u16
 }
 
 // decode_slave_address: STAR2 is read behind ADDR, and the own address that matched where it is not the general call.
-pub fn decode_slave_address(block: &mut [u8], entry: u8, what: u8, part: u8, answer: u16) -> u64
+pub fn decode_slave_address(block: &mut [u8], entry: u8, what: u8, phase: u8, answer: u16) -> u64
     requires { ⌜ length (now block) ≡ blockSize ⌝ }
-    ensures { λ r. ⌜ ((size : ℕ) → Group 4 entry size what part answer (now (block .entry)) (now (block .exit)) r) ⌝ }
+    ensures { λ r. ⌜ ((size : ℕ) → Group 4 entry size what phase answer (now (block .entry)) (now (block .exit)) r) ⌝ }
 {
-    if !((what == 0) & ((part < 3) & (entry == numbers::LISTEN))) {
+    if !((what == 0) & ((phase < 3) & (entry == numbers::LISTEN))) {
         return asked::refused();
     }
-    match part {
+    match phase {
         stage::MATCH_STATUS => {
             if word::bit(answer, bits::GENCALL) {
                 return go::returns(block, 0);
             }
             put::saves(block, answer);
             if word::bit(answer, bits::DUALF) {
-                put::part(block, stage::MATCH_SECOND);
+                put::phase(block, stage::MATCH_SECOND);
                 return asked::read(Register::Oaddr2);
             }
-            put::part(block, stage::MATCH_OWN);
+            put::phase(block, stage::MATCH_OWN);
             asked::read(Register::Oaddr1)
         }
         stage::MATCH_SECOND => {

@@ -145,13 +145,13 @@ pub fn polls(
     size: u16,
     count: u32,
     what: u8,
-    part: u8,
+    phase: u8,
     answer: u16,
 ) -> u64
     requires { ⌜ length (now block) ≡ blockSize ⌝ }
-    ensures { λ r. ⌜ GroupCounting 3 entry size count what part answer (now (block .entry)) (now (block .exit)) r ⌝ }
+    ensures { λ r. ⌜ GroupCounting 3 entry size count what phase answer (now (block .entry)) (now (block .exit)) r ⌝ }
 {
-    if !((what == 0) & (part == 0)) {
+    if !((what == 0) & (phase == 0)) {
         return asked::refused();
     }
     match entry {
@@ -170,7 +170,7 @@ fn judged(block: &mut [u8]) -> u64
     let chip = numbers::chip_of(block[put::CHIP]);
     match errors::error_of(status, chip, false) {
         Checked::Fine => {
-            put::part(block, stage::ERRORS_CLOCK);
+            put::phase(block, stage::ERRORS_CLOCK);
             asked::clock()
         }
         Checked::Failed(failure) => go::fails(block, failure),
@@ -178,14 +178,14 @@ fn judged(block: &mut [u8]) -> u64
 }
 
 // slave_handle_errors(star1)?; timeout.check().ok_or(Error::Timeout)?
-pub fn check_errors_and_time(block: &mut [u8], what: u8, part: u8, answer: u16) -> u64
+pub fn check_errors_and_time(block: &mut [u8], what: u8, phase: u8, answer: u16) -> u64
     requires { ⌜ length (now block) ≡ blockSize ⌝ }
-    ensures { λ r. ⌜ ((entry size : ℕ) → Group 8 entry size what part answer (now (block .entry)) (now (block .exit)) r) ⌝ }
+    ensures { λ r. ⌜ ((entry size : ℕ) → Group 8 entry size what phase answer (now (block .entry)) (now (block .exit)) r) ⌝ }
 {
-    if !((what == 0) & (part < 2)) {
+    if !((what == 0) & (phase < 2)) {
         return asked::refused();
     }
-    match part {
+    match phase {
         stage::ERRORS_CLEAR => judged(block),
         _ => {
             if next::late(answer) {

@@ -20,9 +20,9 @@ pub const GROUP: usize = 3;
 
 pub const WHAT: usize = 4;
 
-pub const PART: usize = 5;
+pub const PHASE: usize = 5;
 
-pub const FLAGS: usize = 6;
+pub const MARKS: usize = 6;
 
 pub const ERROR: usize = 7;
 
@@ -77,21 +77,21 @@ pub fn count_at(block: &[u8]) -> u32
 }
 
 // On to another stage.
-pub fn to(block: &mut [u8], group: u8, what: u8, part: u8)
+pub fn to(block: &mut [u8], group: u8, what: u8, phase: u8)
     requires { ⌜ length (now block) ≡ blockSize ⌝ }
-    ensures { λ _. ⌜ Puts (now (block .entry)) (now (block .exit)) (λ (d : Progress). d) (λ (_ : ℕ). group) (λ (_ : ℕ). what) (λ (_ : ℕ). part) ⌝ }
+    ensures { λ _. ⌜ Puts (now (block .entry)) (now (block .exit)) (λ (d : Progress). d) (λ (_ : ℕ). group) (λ (_ : ℕ). what) (λ (_ : ℕ). phase) ⌝ }
 {
     block[GROUP] = group;
     block[WHAT] = what;
-    block[PART] = part;
+    block[PHASE] = phase;
 }
 
-// On to another part of the stage.
-pub fn part(block: &mut [u8], part: u8)
+// On to another phase of the stage.
+pub fn phase(block: &mut [u8], phase: u8)
     requires { ⌜ length (now block) ≡ blockSize ⌝ }
-    ensures { λ _. ⌜ Puts (now (block .entry)) (now (block .exit)) (λ (d : Progress). d) kept kept (λ (_ : ℕ). part) ⌝ }
+    ensures { λ _. ⌜ Puts (now (block .entry)) (now (block .exit)) (λ (d : Progress). d) kept kept (λ (_ : ℕ). phase) ⌝ }
 {
-    block[PART] = part;
+    block[PHASE] = phase;
 }
 
 // The word of the last read.

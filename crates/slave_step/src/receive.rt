@@ -10,11 +10,11 @@ use images::numbers;
 use registers::Register;
 
 // let byte = regs.datar().read().datar(): it counts where there was room for it.
-pub fn received(block: &mut [u8], entry: u8, size: u16, count: u32, what: u8, part: u8) -> u64
+pub fn received(block: &mut [u8], entry: u8, size: u16, count: u32, what: u8, phase: u8) -> u64
     requires { ⌜ length (now block) ≡ blockSize ⌝ }
-    ensures { λ r. ⌜ ((answer : ℕ) → GroupCounting 5 entry size count what part answer (now (block .entry)) (now (block .exit)) r) ⌝ }
+    ensures { λ r. ⌜ ((answer : ℕ) → GroupCounting 5 entry size count what phase answer (now (block .entry)) (now (block .exit)) r) ⌝ }
 {
-    if !((what == 0) & ((part == 0) & (entry == numbers::RESPOND_TO_WRITE))) {
+    if !((what == 0) & ((phase == 0) & (entry == numbers::RESPOND_TO_WRITE))) {
         return asked::refused();
     }
     if count < size as u32 {

@@ -10,12 +10,12 @@ use images::numbers;
 use registers::Register;
 
 // regs.datar().write(|reg| reg.set_datar(..)): the count stops at one more than the data has.
-pub fn sent(block: &mut [u8], entry: u8, size: u16, count: u32, what: u8, part: u8) -> u64
+pub fn sent(block: &mut [u8], entry: u8, size: u16, count: u32, what: u8, phase: u8) -> u64
     requires { ⌜ length (now block) ≡ blockSize ⌝ }
-    ensures { λ r. ⌜ ((answer : ℕ) → GroupCounting 6 entry size count what part answer (now (block .entry)) (now (block .exit)) r) ⌝ }
+    ensures { λ r. ⌜ ((answer : ℕ) → GroupCounting 6 entry size count what phase answer (now (block .entry)) (now (block .exit)) r) ⌝ }
 {
     if !((what == 0)
-        & ((part == 0) & ((entry != numbers::LISTEN) & (entry != numbers::RESPOND_TO_WRITE)))) {
+        & ((phase == 0) & ((entry != numbers::LISTEN) & (entry != numbers::RESPOND_TO_WRITE)))) {
         return asked::refused();
     }
     if count <= size as u32 {

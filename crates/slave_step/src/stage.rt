@@ -1,4 +1,4 @@
-// The stages by number, as they stand in the block: the group, which of the group's, and the part (docs/STATE.md).
+// The stages by number, as they stand in the block: the group, which of the group's, and the phase (docs/STATE.md).
 
 // Groups.
 pub const CLEAR_STOPF: u8 = 0;

@@ -24,23 +24,23 @@ pub fn step_at(
     count: u32,
     group: u8,
     what: u8,
-    part: u8,
+    phase: u8,
     answer: u16,
 ) -> u64
     requires { ⌜ length (now block) ≡ blockSize ⌝ }
-    ensures { λ r. ⌜ Step group entry size count what part answer (now (block .entry)) (now (block .exit)) r ⌝ }
+    ensures { λ r. ⌜ Step group entry size count what phase answer (now (block .entry)) (now (block .exit)) r ⌝ }
 {
     match group {
-        stage::CLEAR_STOPF => clear::clear_stopf(block, entry, what, part, answer),
-        stage::STALE => clear::clear_slave_stale_flags(block, entry, what, part, answer),
-        stage::ARM => listen::arms(block, entry, what, part, answer),
-        stage::POLL => poll::polls(block, entry, size, count, what, part, answer),
-        stage::MATCH => listen::decode_slave_address(block, entry, what, part, answer),
-        stage::RECEIVE => receive::received(block, entry, size, count, what, part),
-        stage::SEND => send::sent(block, entry, size, count, what, part),
-        stage::CLEAR_AF => clear::clear_af(block, entry, what, part, answer),
-        stage::ERRORS => poll::check_errors_and_time(block, what, part, answer),
-        stage::ABORT => abort::abort_slave_transfer(block, what, part, answer),
+        stage::CLEAR_STOPF => clear::clear_stopf(block, entry, what, phase, answer),
+        stage::STALE => clear::clear_slave_stale_flags(block, entry, what, phase, answer),
+        stage::ARM => listen::arms(block, entry, what, phase, answer),
+        stage::POLL => poll::polls(block, entry, size, count, what, phase, answer),
+        stage::MATCH => listen::decode_slave_address(block, entry, what, phase, answer),
+        stage::RECEIVE => receive::received(block, entry, size, count, what, phase),
+        stage::SEND => send::sent(block, entry, size, count, what, phase),
+        stage::CLEAR_AF => clear::clear_af(block, entry, what, phase, answer),
+        stage::ERRORS => poll::check_errors_and_time(block, what, phase, answer),
+        stage::ABORT => abort::abort_slave_transfer(block, what, phase, answer),
         _ => asked::refused(),
     }
 }
@@ -57,7 +57,7 @@ pub fn step(block: &mut [u8], entry: u8, size: usize, answer: u16) -> u64
     let count = put::count_at(block);
     let group = block[put::GROUP];
     let what = block[put::WHAT];
-    let part = block[put::PART];
+    let phase = block[put::PHASE];
     let error = block[put::ERROR];
     let value = put::word_at(block, put::VALUE);
     if !(held::is_call(block, entry)
@@ -65,7 +65,7 @@ pub fn step(block: &mut [u8], entry: u8, size: usize, answer: u16) -> u64
             & ready::is_ready(entry, lent, count, group, what, error, value))) {
         return asked::refused();
     }
-    step_at(block, entry, lent, count, group, what, part, answer)
+    step_at(block, entry, lent, count, group, what, phase, answer)
 }
 
 // The same with a buffer lent: a byte that was to be kept is stored at the place that the block had counted.

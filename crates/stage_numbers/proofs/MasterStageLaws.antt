@@ -25,7 +25,7 @@ use Rattle.master.specs.declared.stage.AbortStage.{AbortStage}
 use Rattle.master.specs.declared.stage.AbortStage.the-variants as abortStage
 use Rattle.master.specs.declared.stage.Stage.{Stage}
 use Rattle.master.specs.declared.stage.Stage.the-variants as stage
-use Rattle.stage_numbers.specs.MasterStage.{fallNumber, fallOf, fallStageNumber, fallStageOf, launchStageNumber, launchStageOf, flagNumber, flagOf, waitStageNumber, waitStageOf, addressStageNumber, addressStageOf, recvStageNumber, recvStageOf, readStageNumber, readStageOf, stopForNumber, stopForOf, halfNumber, halfOf, abortStageNumber, abortStageOf, stageGroup, stageWhat, stagePart, stageOf}
+use Rattle.stage_numbers.specs.MasterStage.{fallNumber, fallOf, fallStageNumber, fallStageOf, launchStageNumber, launchStageOf, flagNumber, flagOf, waitStageNumber, waitStageOf, addressStageNumber, addressStageOf, recvStageNumber, recvStageOf, readStageNumber, readStageOf, stopForNumber, stopForOf, halfNumber, halfOf, abortStageNumber, abortStageOf, stageGroup, stageWhat, stagePhase, stageOf}
 
 fall-back : (x : Fall) → fallOf (fallNumber x) ≡ x
 fall-back fall.Start = refl
@@ -107,15 +107,15 @@ abort-stage-back abortStage.Master = refl
 abort-stage-back abortStage.StopRead = refl
 abort-stage-back abortStage.StopWrite = refl
 
-pub stage-back : (s : Stage) → stageOf (stageGroup s) (stageWhat s) (stagePart s) ≡ s
+pub stage-back : (s : Stage) → stageOf (stageGroup s) (stageWhat s) (stagePhase s) ≡ s
 stage-back stage.Begin = refl
-stage-back (stage.WaitStop what part) = rw (fall-back what, fall-stage-back part)
-stage-back (stage.LaunchStart part) = ap stage.LaunchStart (launch-stage-back part)
-stage-back (stage.Wait what part) = rw (flag-back what, wait-stage-back part)
-stage-back (stage.Address part) = ap stage.Address (address-stage-back part)
+stage-back (stage.WaitStop what phase) = rw (fall-back what, fall-stage-back phase)
+stage-back (stage.LaunchStart phase) = ap stage.LaunchStart (launch-stage-back phase)
+stage-back (stage.Wait what phase) = rw (flag-back what, wait-stage-back phase)
+stage-back (stage.Address phase) = ap stage.Address (address-stage-back phase)
 stage-back stage.SendByte = refl
-stage-back (stage.RecvByte part) = ap stage.RecvByte (recv-stage-back part)
-stage-back (stage.ReadIter part) = ap stage.ReadIter (read-stage-back part)
-stage-back (stage.GenerateStop what part) = rw (stop-for-back what, half-back part)
-stage-back (stage.Abort part) = ap stage.Abort (abort-stage-back part)
+stage-back (stage.RecvByte phase) = ap stage.RecvByte (recv-stage-back phase)
+stage-back (stage.ReadIter phase) = ap stage.ReadIter (read-stage-back phase)
+stage-back (stage.GenerateStop what phase) = rw (stop-for-back what, half-back phase)
+stage-back (stage.Abort phase) = ap stage.Abort (abort-stage-back phase)
 stage-back stage.Ended = refl

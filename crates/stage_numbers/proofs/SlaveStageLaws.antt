@@ -19,7 +19,7 @@ use Rattle.slave.specs.declared.stage.AbortStage.{AbortStage}
 use Rattle.slave.specs.declared.stage.AbortStage.the-variants as abortStage
 use Rattle.slave.specs.declared.stage.Stage.{Stage}
 use Rattle.slave.specs.declared.stage.Stage.the-variants as stage
-use Rattle.stage_numbers.specs.SlaveStage.{stopfForNumber, stopfForOf, stopfStageNumber, stopfStageOf, staleStageNumber, staleStageOf, armStageNumber, armStageOf, matchStageNumber, matchStageOf, halfNumber, halfOf, errorStageNumber, errorStageOf, abortStageNumber, abortStageOf, stageGroup, stageWhat, stagePart, stageOf}
+use Rattle.stage_numbers.specs.SlaveStage.{stopfForNumber, stopfForOf, stopfStageNumber, stopfStageOf, staleStageNumber, staleStageOf, armStageNumber, armStageOf, matchStageNumber, matchStageOf, halfNumber, halfOf, errorStageNumber, errorStageOf, abortStageNumber, abortStageOf, stageGroup, stageWhat, stagePhase, stageOf}
 
 stopf-for-back : (x : StopfFor) → stopfForOf (stopfForNumber x) ≡ x
 stopf-for-back stopfFor.Listen = refl
@@ -60,15 +60,15 @@ abort-stage-back abortStage.Busy = refl
 abort-stage-back abortStage.StopRead = refl
 abort-stage-back abortStage.StopWrite = refl
 
-pub stage-back : (s : Stage) → stageOf (stageGroup s) (stageWhat s) (stagePart s) ≡ s
-stage-back (stage.ClearStopf what part) = rw (stopf-for-back what, stopf-stage-back part)
-stage-back (stage.Stale part) = ap stage.Stale (stale-stage-back part)
-stage-back (stage.Arm part) = ap stage.Arm (arm-stage-back part)
+pub stage-back : (s : Stage) → stageOf (stageGroup s) (stageWhat s) (stagePhase s) ≡ s
+stage-back (stage.ClearStopf what phase) = rw (stopf-for-back what, stopf-stage-back phase)
+stage-back (stage.Stale phase) = ap stage.Stale (stale-stage-back phase)
+stage-back (stage.Arm phase) = ap stage.Arm (arm-stage-back phase)
 stage-back stage.Poll = refl
-stage-back (stage.Match part) = ap stage.Match (match-stage-back part)
+stage-back (stage.Match phase) = ap stage.Match (match-stage-back phase)
 stage-back stage.Receive = refl
 stage-back stage.Send = refl
-stage-back (stage.ClearAf part) = ap stage.ClearAf (half-back part)
-stage-back (stage.Errors part) = ap stage.Errors (error-stage-back part)
-stage-back (stage.Abort part) = ap stage.Abort (abort-stage-back part)
+stage-back (stage.ClearAf phase) = ap stage.ClearAf (half-back phase)
+stage-back (stage.Errors phase) = ap stage.Errors (error-stage-back phase)
+stage-back (stage.Abort phase) = ap stage.Abort (abort-stage-back phase)
 stage-back stage.Ended = refl

@@ -1,4 +1,4 @@
--- The stages of a master call by number: the group, which of the group's, and the part.
+-- The stages of a master call by number: the group, which of the group's, and the phase.
 use Prim.Native.Nat.{ℕ}
 use mathlib.Core.Bool.{Bool, cond, _&&_}
 use lib.Dec.{eqb}
@@ -142,61 +142,61 @@ abortStageOf n = cond (eqb n 0) abortStage.FinishRead (cond (eqb n 1) abortStage
 
 abbrev pub stageGroup : Stage → ℕ
 stageGroup stage.Begin = 0
-stageGroup (stage.WaitStop what part) = 1
-stageGroup (stage.LaunchStart part) = 2
-stageGroup (stage.Wait what part) = 3
-stageGroup (stage.Address part) = 4
+stageGroup (stage.WaitStop what phase) = 1
+stageGroup (stage.LaunchStart phase) = 2
+stageGroup (stage.Wait what phase) = 3
+stageGroup (stage.Address phase) = 4
 stageGroup stage.SendByte = 5
-stageGroup (stage.RecvByte part) = 6
-stageGroup (stage.ReadIter part) = 7
-stageGroup (stage.GenerateStop what part) = 8
-stageGroup (stage.Abort part) = 9
+stageGroup (stage.RecvByte phase) = 6
+stageGroup (stage.ReadIter phase) = 7
+stageGroup (stage.GenerateStop what phase) = 8
+stageGroup (stage.Abort phase) = 9
 stageGroup stage.Ended = 10
 
 -- which of the group's: what STOP falls for, what is waited for
 abbrev pub stageWhat : Stage → ℕ
 stageWhat stage.Begin = 0
-stageWhat (stage.WaitStop what part) = fallNumber what
-stageWhat (stage.LaunchStart part) = 0
-stageWhat (stage.Wait what part) = flagNumber what
-stageWhat (stage.Address part) = 0
+stageWhat (stage.WaitStop what phase) = fallNumber what
+stageWhat (stage.LaunchStart phase) = 0
+stageWhat (stage.Wait what phase) = flagNumber what
+stageWhat (stage.Address phase) = 0
 stageWhat stage.SendByte = 0
-stageWhat (stage.RecvByte part) = 0
-stageWhat (stage.ReadIter part) = 0
-stageWhat (stage.GenerateStop what part) = stopForNumber what
-stageWhat (stage.Abort part) = 0
+stageWhat (stage.RecvByte phase) = 0
+stageWhat (stage.ReadIter phase) = 0
+stageWhat (stage.GenerateStop what phase) = stopForNumber what
+stageWhat (stage.Abort phase) = 0
 stageWhat stage.Ended = 0
 
-abbrev pub stagePart : Stage → ℕ
-stagePart stage.Begin = 0
-stagePart (stage.WaitStop what part) = fallStageNumber part
-stagePart (stage.LaunchStart part) = launchStageNumber part
-stagePart (stage.Wait what part) = waitStageNumber part
-stagePart (stage.Address part) = addressStageNumber part
-stagePart stage.SendByte = 0
-stagePart (stage.RecvByte part) = recvStageNumber part
-stagePart (stage.ReadIter part) = readStageNumber part
-stagePart (stage.GenerateStop what part) = halfNumber part
-stagePart (stage.Abort part) = abortStageNumber part
-stagePart stage.Ended = 0
+abbrev pub stagePhase : Stage → ℕ
+stagePhase stage.Begin = 0
+stagePhase (stage.WaitStop what phase) = fallStageNumber phase
+stagePhase (stage.LaunchStart phase) = launchStageNumber phase
+stagePhase (stage.Wait what phase) = waitStageNumber phase
+stagePhase (stage.Address phase) = addressStageNumber phase
+stagePhase stage.SendByte = 0
+stagePhase (stage.RecvByte phase) = recvStageNumber phase
+stagePhase (stage.ReadIter phase) = readStageNumber phase
+stagePhase (stage.GenerateStop what phase) = halfNumber phase
+stagePhase (stage.Abort phase) = abortStageNumber phase
+stagePhase stage.Ended = 0
 
 -- the stage of these numbers, if they are those of one
 abbrev pub stageOf : ℕ → ℕ → ℕ → Stage
-stageOf group what part =
+stageOf group what phase =
     cond (eqb group 0) stage.Begin
-    (cond (eqb group 1) (stage.WaitStop (fallOf what) (fallStageOf part))
-    (cond (eqb group 2) (stage.LaunchStart (launchStageOf part))
-    (cond (eqb group 3) (stage.Wait (flagOf what) (waitStageOf part))
-    (cond (eqb group 4) (stage.Address (addressStageOf part))
+    (cond (eqb group 1) (stage.WaitStop (fallOf what) (fallStageOf phase))
+    (cond (eqb group 2) (stage.LaunchStart (launchStageOf phase))
+    (cond (eqb group 3) (stage.Wait (flagOf what) (waitStageOf phase))
+    (cond (eqb group 4) (stage.Address (addressStageOf phase))
     (cond (eqb group 5) stage.SendByte
-    (cond (eqb group 6) (stage.RecvByte (recvStageOf part))
-    (cond (eqb group 7) (stage.ReadIter (readStageOf part))
-    (cond (eqb group 8) (stage.GenerateStop (stopForOf what) (halfOf part))
-    (cond (eqb group 9) (stage.Abort (abortStageOf part))
+    (cond (eqb group 6) (stage.RecvByte (recvStageOf phase))
+    (cond (eqb group 7) (stage.ReadIter (readStageOf phase))
+    (cond (eqb group 8) (stage.GenerateStop (stopForOf what) (halfOf phase))
+    (cond (eqb group 9) (stage.Abort (abortStageOf phase))
     stage.Ended)))))))))
 
 -- numbers that the stage that they tell has
 unfoldable pub isStage : ℕ → ℕ → ℕ → Bool
-isStage group what part =
-    eqb (stageGroup (stageOf group what part)) group
-    && (eqb (stageWhat (stageOf group what part)) what && eqb (stagePart (stageOf group what part)) part)
+isStage group what phase =
+    eqb (stageGroup (stageOf group what phase)) group
+    && (eqb (stageWhat (stageOf group what phase)) what && eqb (stagePhase (stageOf group what phase)) phase)

@@ -1,4 +1,4 @@
--- The stages of a slave call by number: the group, which of the group's, and the part.
+-- The stages of a slave call by number: the group, which of the group's, and the phase.
 use Prim.Native.Nat.{ℕ}
 use mathlib.Core.Bool.{Bool, cond, _&&_}
 use lib.Dec.{eqb}
@@ -85,62 +85,62 @@ abbrev pub abortStageOf : ℕ → AbortStage
 abortStageOf n = cond (eqb n 0) abortStage.DisableRead (cond (eqb n 1) abortStage.DisableWrite (cond (eqb n 2) abortStage.Busy (cond (eqb n 3) abortStage.StopRead abortStage.StopWrite)))
 
 abbrev pub stageGroup : Stage → ℕ
-stageGroup (stage.ClearStopf what part) = 0
-stageGroup (stage.Stale part) = 1
-stageGroup (stage.Arm part) = 2
+stageGroup (stage.ClearStopf what phase) = 0
+stageGroup (stage.Stale phase) = 1
+stageGroup (stage.Arm phase) = 2
 stageGroup stage.Poll = 3
-stageGroup (stage.Match part) = 4
+stageGroup (stage.Match phase) = 4
 stageGroup stage.Receive = 5
 stageGroup stage.Send = 6
-stageGroup (stage.ClearAf part) = 7
-stageGroup (stage.Errors part) = 8
-stageGroup (stage.Abort part) = 9
+stageGroup (stage.ClearAf phase) = 7
+stageGroup (stage.Errors phase) = 8
+stageGroup (stage.Abort phase) = 9
 stageGroup stage.Ended = 10
 
 -- which of the group's: what STOPF is cleared for
 abbrev pub stageWhat : Stage → ℕ
-stageWhat (stage.ClearStopf what part) = stopfForNumber what
-stageWhat (stage.Stale part) = 0
-stageWhat (stage.Arm part) = 0
+stageWhat (stage.ClearStopf what phase) = stopfForNumber what
+stageWhat (stage.Stale phase) = 0
+stageWhat (stage.Arm phase) = 0
 stageWhat stage.Poll = 0
-stageWhat (stage.Match part) = 0
+stageWhat (stage.Match phase) = 0
 stageWhat stage.Receive = 0
 stageWhat stage.Send = 0
-stageWhat (stage.ClearAf part) = 0
-stageWhat (stage.Errors part) = 0
-stageWhat (stage.Abort part) = 0
+stageWhat (stage.ClearAf phase) = 0
+stageWhat (stage.Errors phase) = 0
+stageWhat (stage.Abort phase) = 0
 stageWhat stage.Ended = 0
 
-abbrev pub stagePart : Stage → ℕ
-stagePart (stage.ClearStopf what part) = stopfStageNumber part
-stagePart (stage.Stale part) = staleStageNumber part
-stagePart (stage.Arm part) = armStageNumber part
-stagePart stage.Poll = 0
-stagePart (stage.Match part) = matchStageNumber part
-stagePart stage.Receive = 0
-stagePart stage.Send = 0
-stagePart (stage.ClearAf part) = halfNumber part
-stagePart (stage.Errors part) = errorStageNumber part
-stagePart (stage.Abort part) = abortStageNumber part
-stagePart stage.Ended = 0
+abbrev pub stagePhase : Stage → ℕ
+stagePhase (stage.ClearStopf what phase) = stopfStageNumber phase
+stagePhase (stage.Stale phase) = staleStageNumber phase
+stagePhase (stage.Arm phase) = armStageNumber phase
+stagePhase stage.Poll = 0
+stagePhase (stage.Match phase) = matchStageNumber phase
+stagePhase stage.Receive = 0
+stagePhase stage.Send = 0
+stagePhase (stage.ClearAf phase) = halfNumber phase
+stagePhase (stage.Errors phase) = errorStageNumber phase
+stagePhase (stage.Abort phase) = abortStageNumber phase
+stagePhase stage.Ended = 0
 
 -- the stage of these numbers, if they are those of one
 abbrev pub stageOf : ℕ → ℕ → ℕ → Stage
-stageOf group what part =
-    cond (eqb group 0) (stage.ClearStopf (stopfForOf what) (stopfStageOf part))
-    (cond (eqb group 1) (stage.Stale (staleStageOf part))
-    (cond (eqb group 2) (stage.Arm (armStageOf part))
+stageOf group what phase =
+    cond (eqb group 0) (stage.ClearStopf (stopfForOf what) (stopfStageOf phase))
+    (cond (eqb group 1) (stage.Stale (staleStageOf phase))
+    (cond (eqb group 2) (stage.Arm (armStageOf phase))
     (cond (eqb group 3) stage.Poll
-    (cond (eqb group 4) (stage.Match (matchStageOf part))
+    (cond (eqb group 4) (stage.Match (matchStageOf phase))
     (cond (eqb group 5) stage.Receive
     (cond (eqb group 6) stage.Send
-    (cond (eqb group 7) (stage.ClearAf (halfOf part))
-    (cond (eqb group 8) (stage.Errors (errorStageOf part))
-    (cond (eqb group 9) (stage.Abort (abortStageOf part))
+    (cond (eqb group 7) (stage.ClearAf (halfOf phase))
+    (cond (eqb group 8) (stage.Errors (errorStageOf phase))
+    (cond (eqb group 9) (stage.Abort (abortStageOf phase))
     stage.Ended)))))))))
 
 -- numbers that the stage that they tell has
 unfoldable pub isStage : ℕ → ℕ → ℕ → Bool
-isStage group what part =
-    eqb (stageGroup (stageOf group what part)) group
-    && (eqb (stageWhat (stageOf group what part)) what && eqb (stagePart (stageOf group what part)) part)
+isStage group what phase =
+    eqb (stageGroup (stageOf group what phase)) group
+    && (eqb (stageWhat (stageOf group what phase)) what && eqb (stagePhase (stageOf group what phase)) phase)

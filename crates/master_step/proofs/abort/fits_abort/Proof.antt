@@ -5,7 +5,7 @@ use Rattle.master_step.proofs.abort.fits_abort.Statement.{statement}
 use Rattle.master_step.proofs.abort.fits_abort.Tie as tie
 
 returns : tie.Need-returns
-returns c = rw (rise-fits (c .before .args .chip) (c .before .args .part))
+returns c = rw (rise-fits (c .before .args .chip) (c .before .args .phase))
 
 pub fits-abort-spec : {M : Type 1} → statement M
 fits-abort-spec =

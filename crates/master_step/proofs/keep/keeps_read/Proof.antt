@@ -14,7 +14,7 @@ returns-3 : tie.Need-returns-3
 returns-3 c = λ g w d. rw (c .match .keys3)
 
 returns-4 : tie.Need-returns-4
-returns-4 c = λ g w d. read-unkept (g .frame .«send_nack») d (c .before .args .part) (c .match .rest .0 .0 .1) (c .match .rest .0 .1) (c .match .rest .1)
+returns-4 c = λ g w d. read-unkept (g .frame .«send_nack») d (c .before .args .phase) (c .match .rest .0 .0 .1) (c .match .rest .0 .1) (c .match .rest .1)
 
 pub keeps-read-spec : {M : Type 1} → statement M
 keeps-read-spec =

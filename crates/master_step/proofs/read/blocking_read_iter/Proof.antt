@@ -13,13 +13,13 @@ use Rattle.master_step.proofs.read.blocking_read_iter.Tie as tie
 returns : tie.Need-returns
 returns c =
     λ k r d s l n.
-    refuses (read-decides (c .before .before .before .before .args .left) (c .before .before .before .before .args .what) (c .before .before .before .before .args .part) s l n (search needs) (search needs) ∙ ap (λ (b : Bool). eqb (c .before .before .before .before .args .what) 0 && b) (sym (c .before .before .fits-read .ensures)) ∙ unset _ (c .before .if1 .taken)) (record { block = refl; ended = c .refused .ensures })
+    refuses (read-decides (c .before .before .before .before .args .left) (c .before .before .before .before .args .what) (c .before .before .before .before .args .phase) s l n (search needs) (search needs) ∙ ap (λ (b : Bool). eqb (c .before .before .before .before .args .what) 0 && b) (sym (c .before .before .fits-read .ensures)) ∙ unset _ (c .before .if1 .taken)) (record { block = refl; ended = c .refused .ensures })
 
 returns-2 : tie.Need-returns-2
 returns-2 c =
     λ k r d s l n.
     let fit = ap (λ (b : Bool). eqb (c .before .before .before .before .before .before .before .args .what) 0 && b) (sym (c .before .before .before .before .before .fits-read .ensures)) ∙ set _ (c .before .before .before .before .if1 .left) in
-    takes (read-decides (c .before .before .before .before .before .before .before .args .left) (c .before .before .before .before .before .before .before .args .what) (c .before .before .before .before .before .before .before .args .part) s l n (search needs) (search needs) ∙ fit) (c .before .before .read-part .ensures k r d (c .before .before .before .before .before .before .before .args .part) (told (zero-told (c .before .before .before .before .before .before .before .args .what) _ fit) s) l)
+    takes (read-decides (c .before .before .before .before .before .before .before .args .left) (c .before .before .before .before .before .before .before .args .what) (c .before .before .before .before .before .before .before .args .phase) s l n (search needs) (search needs) ∙ fit) (c .before .before .read-phase .ensures k r d (c .before .before .before .before .before .before .before .args .phase) (told (zero-told (c .before .before .before .before .before .before .before .args .what) _ fit) s) l)
 
 pub blocking-read-iter-spec : {M : Type 1} → statement M
 blocking-read-iter-spec =

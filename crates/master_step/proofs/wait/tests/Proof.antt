@@ -8,7 +8,7 @@ use Rattle.master_step.proofs.wait.tests.Statement.{statement}
 use Rattle.master_step.proofs.wait.tests.Tie as tie
 
 returns : tie.Need-returns
-returns c = λ k r d p s l. first _ (ap not (sym (c .before .before .before .before .before .before .is-set .ensures)) ∙ c .before .before .before .before .before .if1 .taken) (moves (c .before .before .before .part .ensures .block k d 3 _ p (s .held)) (c .clock .ensures))
+returns c = λ k r d p s l. first _ (ap not (sym (c .before .before .before .before .before .before .is-set .ensures)) ∙ c .before .before .before .before .before .if1 .taken) (moves (c .before .before .before .phase .ensures .block k d 3 _ p (s .held)) (c .clock .ensures))
 
 returns-2 : tie.Need-returns-2
 returns-2 c = λ k r d p s l. second _ (ap not (sym (c .before .before .before .before .before .is-set .ensures)) ∙ c .before .before .before .before .if1 .left) (c .before .before .waited .ensures k r d p s l)

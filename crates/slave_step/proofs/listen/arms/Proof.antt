@@ -12,19 +12,19 @@ use Rattle.slave_step.proofs.listen.arms.Statement.{statement}
 use Rattle.slave_step.proofs.listen.arms.Tie as tie
 
 returns : tie.Need-returns
-returns c = λ size chip d s. refuses (arm-decides chip (c .before .before .before .args .entry) size d (c .before .before .before .args .what) (c .before .before .before .args .part) s (search needs) ∙ not-true _ (c .before .if1 .taken)) (record { block = refl; ended = c .refused .ensures })
+returns c = λ size chip d s. refuses (arm-decides chip (c .before .before .before .args .entry) size d (c .before .before .before .args .what) (c .before .before .before .args .phase) s (search needs) ∙ not-true _ (c .before .if1 .taken)) (record { block = refl; ended = c .refused .ensures })
 
 returns-2 : tie.Need-returns-2
-returns-2 c = λ size chip d s. let fit = not-false _ (c .before .before .before .before .before .before .if1 .left) in takes (arm-decides chip (c .before .before .before .before .before .before .before .before .args .entry) size d (c .before .before .before .before .before .before .before .before .args .what) (c .before .before .before .before .before .before .before .before .args .part) s (search needs) ∙ fit) (rw (c .before .before .before .before .before .match .keys1) (moves (c .before .before .modifies .ensures .0 .block (settingAt chip (c .before .before .before .before .before .before .before .before .args .entry) size) d 2 _ (c .before .before .before .before .before .before .before .before .args .part) (told (settingAt chip (c .before .before .before .before .before .before .before .before .args .entry) size) d 2 (c .before .before .before .before .before .before .before .before .args .part) (zero-told (c .before .before .before .before .before .before .before .before .args .what) _ fit) (s .held))) (asks (ap (need.Write Ctlr2) (c .before .before .before .clear-bit .ensures)) (c .before .before .modifies .ensures .1))))
+returns-2 c = λ size chip d s. let fit = not-false _ (c .before .before .before .before .before .before .if1 .left) in takes (arm-decides chip (c .before .before .before .before .before .before .before .before .args .entry) size d (c .before .before .before .before .before .before .before .before .args .what) (c .before .before .before .before .before .before .before .before .args .phase) s (search needs) ∙ fit) (rw (c .before .before .before .before .before .match .keys1) (moves (c .before .before .modifies .ensures .0 .block (settingAt chip (c .before .before .before .before .before .before .before .before .args .entry) size) d 2 _ (c .before .before .before .before .before .before .before .before .args .phase) (told (settingAt chip (c .before .before .before .before .before .before .before .before .args .entry) size) d 2 (c .before .before .before .before .before .before .before .before .args .phase) (zero-told (c .before .before .before .before .before .before .before .before .args .what) _ fit) (s .held))) (asks (ap (need.Write Ctlr2) (c .before .before .before .clear-bit .ensures)) (c .before .before .modifies .ensures .1))))
 
 returns-3 : tie.Need-returns-3
-returns-3 c = λ size chip d s. let fit = not-false _ (c .before .before .before .before .before .before .if1 .left) in takes (arm-decides chip (c .before .before .before .before .before .before .before .before .args .entry) size d (c .before .before .before .before .before .before .before .before .args .what) (c .before .before .before .before .before .before .before .before .args .part) s (search needs) ∙ fit) (rw (c .before .before .before .before .before .match .keys2) (moves (c .before .before .before .part .ensures .block (settingAt chip (c .before .before .before .before .before .before .before .before .args .entry) size) d 2 _ (c .before .before .before .before .before .before .before .before .args .part) (told (settingAt chip (c .before .before .before .before .before .before .before .before .args .entry) size) d 2 (c .before .before .before .before .before .before .before .before .args .part) (zero-told (c .before .before .before .before .before .before .before .before .args .what) _ fit) (s .held))) (c .read .ensures)))
+returns-3 c = λ size chip d s. let fit = not-false _ (c .before .before .before .before .before .before .if1 .left) in takes (arm-decides chip (c .before .before .before .before .before .before .before .before .args .entry) size d (c .before .before .before .before .before .before .before .before .args .what) (c .before .before .before .before .before .before .before .before .args .phase) s (search needs) ∙ fit) (rw (c .before .before .before .before .before .match .keys2) (moves (c .before .before .before .phase .ensures .block (settingAt chip (c .before .before .before .before .before .before .before .before .args .entry) size) d 2 _ (c .before .before .before .before .before .before .before .before .args .phase) (told (settingAt chip (c .before .before .before .before .before .before .before .before .args .entry) size) d 2 (c .before .before .before .before .before .before .before .before .args .phase) (zero-told (c .before .before .before .before .before .before .before .before .args .what) _ fit) (s .held))) (c .read .ensures)))
 
 returns-4 : tie.Need-returns-4
-returns-4 c = λ size chip d s. let fit = not-false _ (c .before .before .before .before .before .before .if1 .left) in takes (arm-decides chip (c .before .before .before .before .before .before .before .before .args .entry) size d (c .before .before .before .before .before .before .before .before .args .what) (c .before .before .before .before .before .before .before .before .args .part) s (search needs) ∙ fit) (rw (c .before .before .before .before .before .match .keys3) (moves (c .before .before .modifies2 .ensures .0 .block (settingAt chip (c .before .before .before .before .before .before .before .before .args .entry) size) d 2 _ (c .before .before .before .before .before .before .before .before .args .part) (told (settingAt chip (c .before .before .before .before .before .before .before .before .args .entry) size) d 2 (c .before .before .before .before .before .before .before .before .args .part) (zero-told (c .before .before .before .before .before .before .before .before .args .what) _ fit) (s .held))) (asks (ap (need.Write Ctlr1) (c .before .before .before .set-bit .ensures)) (c .before .before .modifies2 .ensures .1))))
+returns-4 c = λ size chip d s. let fit = not-false _ (c .before .before .before .before .before .before .if1 .left) in takes (arm-decides chip (c .before .before .before .before .before .before .before .before .args .entry) size d (c .before .before .before .before .before .before .before .before .args .what) (c .before .before .before .before .before .before .before .before .args .phase) s (search needs) ∙ fit) (rw (c .before .before .before .before .before .match .keys3) (moves (c .before .before .modifies2 .ensures .0 .block (settingAt chip (c .before .before .before .before .before .before .before .before .args .entry) size) d 2 _ (c .before .before .before .before .before .before .before .before .args .phase) (told (settingAt chip (c .before .before .before .before .before .before .before .before .args .entry) size) d 2 (c .before .before .before .before .before .before .before .before .args .phase) (zero-told (c .before .before .before .before .before .before .before .before .args .what) _ fit) (s .held))) (asks (ap (need.Write Ctlr1) (c .before .before .before .set-bit .ensures)) (c .before .before .modifies2 .ensures .1))))
 
 returns-5 : tie.Need-returns-5
-returns-5 c = λ size chip d s. let fit = not-false _ (c .before .before .before .before .before .before .if1 .left) in takes (arm-decides chip (c .before .before .before .before .before .before .before .before .args .entry) size d (c .before .before .before .before .before .before .before .before .args .what) (c .before .before .before .before .before .before .before .before .args .part) s (search needs) ∙ fit) (rw (ack-write-told (c .before .before .before .before .before .before .before .before .args .part) (c .before .before .before .before .before .match .rest .0 .0 .1) (c .before .before .before .before .before .match .rest .0 .1) (c .before .before .before .before .before .match .rest .1)) (moves (c .before .before .before .to .ensures .block (settingAt chip (c .before .before .before .before .before .before .before .before .args .entry) size) d 2 (c .before .before .before .before .before .before .before .before .args .what) (c .before .before .before .before .before .before .before .before .args .part) (s .held)) (c .read2 .ensures)))
+returns-5 c = λ size chip d s. let fit = not-false _ (c .before .before .before .before .before .before .if1 .left) in takes (arm-decides chip (c .before .before .before .before .before .before .before .before .args .entry) size d (c .before .before .before .before .before .before .before .before .args .what) (c .before .before .before .before .before .before .before .before .args .phase) s (search needs) ∙ fit) (rw (ack-write-told (c .before .before .before .before .before .before .before .before .args .phase) (c .before .before .before .before .before .match .rest .0 .0 .1) (c .before .before .before .before .before .match .rest .0 .1) (c .before .before .before .before .before .match .rest .1)) (moves (c .before .before .before .to .ensures .block (settingAt chip (c .before .before .before .before .before .before .before .before .args .entry) size) d 2 (c .before .before .before .before .before .before .before .before .args .what) (c .before .before .before .before .before .before .before .before .args .phase) (s .held)) (c .read2 .ensures)))
 
 pub arms-spec : {M : Type 1} → statement M
 arms-spec =

@@ -1,2 +1,0 @@
-pub mod LookLaws
-pub mod StandingLaws
