@@ -11,7 +11,7 @@ use Rattle.bench_text.specs.declared.input.Parsed.the-variants as parsed
 use Rattle.bench_text.specs.Shown.{badText}
 use Rattle.bench_text.specs.Input.{Input, badLine, call}
 use Rattle.bench_text.specs.Taken.{partsOf, parsedOf, FilledWith}
-use Rattle.bench_run.specs.Printed.{transactionOf, callText, printedOf}
+use Rattle.bench_run.specs.Printed.{callText, printedOf}
 
 -- what stands at the start of a buffer
 at-start : (b xs : List ℕ) → length xs ≤ length b → take (length xs) (sets b 0 xs) ≡ xs
@@ -23,7 +23,7 @@ bad-printed (call c a s) k read e = let z : _≡_ {A = ℕ} 0 1 = cc in absurd (
 
 pub call-printed : (i : Input) (chip address : ℕ) (p : Parts) (list list′ written written′ words words′ read : List ℕ) → parsedOf i ≡ parsed.Call chip address p
     → FilledWith i list list′ written written′ words words′ → p .listed ≤ length list → p .written ≤ length written → p .answers ≤ length words
-    → printedOf i read ≡ callText (transactionOf chip address) (take (p .listed) list′) (take (p .written) written′) (take (p .answers) words′) (take (p .room) read)
+    → printedOf i read ≡ callText chip address (take (p .listed) list′) (take (p .written) written′) (take (p .answers) words′) (take (p .room) read)
 call-printed (badLine j) chip address p list list′ written written′ words words′ read e f hl hw ha = let z : _≡_ {A = ℕ} 0 1 = cc in absurd (omega arith)
 call-printed (call c a s) chip address p list list′ written written′ words words′ read e f hl hw ha =
     let q : p ≡ partsOf s = cc in

@@ -8,11 +8,8 @@ use Rattle.access.specs.declared.next.Next.{Next}
 use Rattle.access.specs.declared.next.Next.the-variants.{Read, Write, Clock, End}
 use Rattle.access.specs.Endings.{failed, endingError}
 use Rattle.access.specs.Record.{isData}
-use Rattle.master.specs.declared.state.Stepped.{Stepped}
-use Rattle.master.specs.declared.state.Begun.{Begun}
-use Rattle.master.specs.declared.state.Begun.the-variants.{Accepted, Refused}
-use Rattle.master.specs.Calls.{lentWith}
-use Rattle.master.specs.Steps.{step, stepRead}
+use Rattle.ch32_i2c.specs.Left.{Left}
+use Rattle.ch32_i2c.specs.Transfer.{transactionStep}
 use Rattle.bench_text.specs.Shown.{readText, writeText, clockText, arrivedText, endText, openText}
 
 -- how many answers an access takes, and how many bytes arrive with it
@@ -51,20 +48,15 @@ endingText (End e) used = endText (endingError e) used
 abbrev pub finishText : Next → List ℕ → ℕ → List ℕ
 finishText n bytes used = arrivedText bytes ++ endingText n used
 
--- from a state on, with the bytes read so far, the answers used and the bytes arrived; at most so many accesses
-unfoldable pub playFrom : ℕ → List ℕ → List ℕ → List ℕ → Stepped → List ℕ → ℕ → ℕ → List ℕ
-playFrom zero list written answers s read used arrived = finishText (s .next) (take arrived read) used
-playFrom (suc turns) list written answers s read used arrived =
-    cond (isEnd (s .next)) (finishText (s .next) (take arrived read) used)
-    (cond (ltb (length answers) (used + asked (s .next))) (finishText (s .next) (take arrived read) used)
-    (accessText (s .next) (getD answers used 0)
-    ++ playFrom turns list written answers (step (s .state) (lentWith list written (length read)) (getD answers used 0))
-    (stepRead (s .state) (lentWith list written (length read)) (getD answers used 0) read) (used + asked (s .next)) (arrived + arriving (s .next))))
+-- from what was left on, with the answers used and the bytes arrived; at most so many accesses
+unfoldable pub playFrom : ℕ → List ℕ → List ℕ → List ℕ → Left → ℕ → ℕ → List ℕ
+playFrom zero list written answers h used arrived = finishText (h .next) (take arrived (h .read)) used
+playFrom (suc turns) list written answers h used arrived =
+    cond (isEnd (h .next)) (finishText (h .next) (take arrived (h .read)) used)
+    (cond (ltb (length answers) (used + asked (h .next))) (finishText (h .next) (take arrived (h .read)) used)
+    (accessText (h .next) (getD answers used 0)
+    ++ playFrom turns list written answers (transactionStep (h .block) list written (h .read) (getD answers used 0)) (used + asked (h .next)) (arrived + arriving (h .next))))
 
 -- more accesses than a call makes on 4,096 answers
 abbrev pub mostTurns : ℕ
 mostTurns = 16384
-
-unfoldable pub played : Begun → List ℕ → List ℕ → List ℕ → List ℕ → List ℕ
-played (Refused e) list written answers read = finishText (End (failed e)) (take 0 read) 0
-played (Accepted s) list written answers read = playFrom mostTurns list written answers s read 0 0

@@ -1,25 +1,17 @@
 -- What the bench program prints for an input.
 use Prim.Native.Nat.{ℕ}
 use mathlib.Core.List.{List}
-use lib.ListN.{length, take}
-use Rattle.master.specs.declared.call.Call.{Call}
-use Rattle.master.specs.declared.call.Kind.the-variants as kind
-use Rattle.master.specs.Calls.{lentWith}
-use Rattle.master.specs.Steps.{begin}
-use Rattle.images.specs.Numbers.{chipOf}
+use lib.ListN.{take, replicate}
+use Rattle.ch32_i2c.specs.Transfer.{transactionBegin}
 use Rattle.bench_text.specs.Shown.{badText}
 use Rattle.bench_text.specs.Input.{Input, badLine, call}
-use Rattle.bench_run.specs.Play.{played}
+use Rattle.bench_run.specs.Play.{playFrom, mostTurns}
 
--- the transaction of a chip's number and an address
-abbrev pub transactionOf : ℕ → ℕ → Call
-transactionOf chip address = record { chip = chipOf chip; address = address; kind = kind.Transaction }
-
--- a call, with these bytes lent to read
-abbrev pub callText : Call → List ℕ → List ℕ → List ℕ → List ℕ → List ℕ
-callText c list written answers read = played (begin c (lentWith list written (length read))) list written answers read
+-- the transaction of a chip's number and an address, on a fresh block, with these bytes lent to read
+abbrev pub callText : ℕ → ℕ → List ℕ → List ℕ → List ℕ → List ℕ → List ℕ
+callText chip address list written answers read = playFrom mostTurns list written answers (transactionBegin (replicate 32 0) chip address list written read) 0 0
 
 -- `read` is what lies where bytes are read to
 abbrev pub printedOf : Input → List ℕ → List ℕ
 printedOf (badLine k) read = badText k
-printedOf (call chip address s) read = callText (transactionOf chip address) (s .list) (s .written) (s .answers) (take (s .room) read)
+printedOf (call chip address s) read = callText chip address (s .list) (s .written) (s .answers) (take (s .room) read)

@@ -1,27 +1,13 @@
 // What the bench program prints for an input.
-ghost use mathlib.Core.Path.{_≡_};
 ghost use Prim.Native.Nat.{_≤_};
 ghost use lib.ListN.{length};
 ghost use Rattle.bench_text.specs.Puts.{Puts};
 ghost use Rattle.bench_text.specs.Input.{inputOf};
-ghost use Rattle.bench_run.specs.Printed.{transactionOf, printedOf};
+ghost use Rattle.bench_run.specs.Printed.{printedOf};
 use crate::play;
 use bench_text::Parsed;
 use bench_text::input;
 use bench_text::shown;
-use images::numbers;
-use master::Call;
-use master::Kind;
-
-fn transaction_of(chip: u8, address: u8) -> Call
-    ensures { λ r. ⌜ r ≡ transactionOf chip address ⌝ }
-{
-    Call {
-        chip: numbers::chip_of(chip),
-        address: address as u16,
-        kind: Kind::Transaction,
-    }
-}
 
 // Puts the text for an input at the start of `out`, and answers how long it is. The other buffers are room to work in.
 pub fn answer(
@@ -47,8 +33,11 @@ pub fn answer(
             let sent = parts.written;
             let room = parts.room as usize;
             let given = parts.answers;
+            let mut block = [0u8; 32];
             play::play(
-                transaction_of(chip, address),
+                chip,
+                address,
+                &mut block,
                 &list[..listed],
                 &written[..sent],
                 &mut read[..room],

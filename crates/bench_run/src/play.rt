@@ -4,16 +4,13 @@ ghost use Prim.Native.Nat.{_+_, _≤_};
 ghost use lib.ListN.{length, getD, take};
 ghost use Rattle.access.specs.Record.{isData};
 ghost use Rattle.bench_text.specs.Puts.{Puts};
-ghost use Rattle.master.specs.Calls.{lentWith};
-ghost use Rattle.master.specs.Steps.{begin};
-ghost use Rattle.bench_run.specs.Play.{asked, arriving, isEnd, accessText, endingText, finishText, playFrom, mostTurns, played};
+ghost use Rattle.ch32_i2c.specs.Left.{left};
+ghost use Rattle.ch32_i2c.specs.Transfer.{transactionBegin};
+ghost use Rattle.bench_run.specs.Play.{asked, arriving, isEnd, accessText, endingText, finishText, playFrom, mostTurns};
+use crate::turn;
 use access::Next;
+use access::ending;
 use bench_text::shown;
-use driver::call;
-use images::numbers;
-use master::Begun;
-use master::Call;
-use master::Stepped;
 use registers::Register;
 
 // More accesses than a call makes on 4,096 answers.
@@ -101,7 +98,7 @@ fn put_ending(out: &mut [u8], at: usize, next: Next, used: u32) -> usize
         Next::Read(_) => shown::put_open(out, at, used),
         Next::Write(_, _) => shown::put_open(out, at, used),
         Next::Clock => shown::put_open(out, at, used),
-        Next::End(ending) => shown::put_end(out, at, numbers::ending_error(ending), used),
+        Next::End(ending) => shown::put_end(out, at, ending::ending_error(ending), used),
     }
 }
 
@@ -128,7 +125,8 @@ fn finish(out: &mut [u8], at: usize, next: Next, read: &[u8], arrived: usize, us
 }
 
 fn go(
-    first: Stepped,
+    first: Next,
+    block: &mut [u8],
     list: &[u8],
     written: &[u8],
     read: &mut [u8],
@@ -137,17 +135,15 @@ fn go(
 ) -> usize
     requires { ⌜ length (now answers) ≤ 4096 ⌝ }
     requires { ⌜ 262163 ≤ length (now out) ⌝ }
-    ensures { λ r. ⌜ Puts (now (out .entry)) 0 (playFrom mostTurns (now (list .entry)) (now (written .entry)) (now (answers .entry)) first (now (read .entry)) 0 0) r (now (out .exit)) ⌝ }
+    ensures { λ r. ⌜ Puts (now (out .entry)) 0 (playFrom mostTurns (now (list .entry)) (now (written .entry)) (now (answers .entry)) (left first (now (block .entry)) (now (read .entry))) 0 0) r (now (out .exit)) ⌝ }
     ensures { λ r. ⌜ r ≤ length (now (out .entry)) ⌝ }
 {
-    let mut stepped = first;
+    let mut next = first;
     let mut used: usize = 0;
     let mut arrived: usize = 0;
     let mut at: usize = 0;
     let mut turns = TURNS;
     while 0 < turns {
-        let next = stepped.next;
-        let state = stepped.state;
         if is_end(next) {
             return finish(out, at, next, read, arrived, used);
         }
@@ -159,15 +155,17 @@ fn go(
         at = put_access(out, at, next, answer);
         used += taken;
         arrived += arriving(next);
-        stepped = call::step(state, list, written, read, answer);
+        next = turn::step(block, list, written, read, answer);
         turns -= 1;
     }
-    let last = stepped.next;
-    finish(out, at, last, read, arrived, used)
+    finish(out, at, next, read, arrived, used)
 }
 
+// The transaction of a chip's number and an address, with these bytes lent, from its begin on.
 pub fn play(
-    call: Call,
+    chip: u8,
+    address: u8,
+    block: &mut [u8],
     list: &[u8],
     written: &[u8],
     read: &mut [u8],
@@ -176,14 +174,9 @@ pub fn play(
 ) -> usize
     requires { ⌜ length (now answers) ≤ 4096 ⌝ }
     requires { ⌜ 262163 ≤ length (now out) ⌝ }
-    ensures { λ r. ⌜ Puts (now (out .entry)) 0 (played (begin call (lentWith (now (list .entry)) (now (written .entry)) (length (now (read .entry))))) (now (list .entry)) (now (written .entry)) (now (answers .entry)) (now (read .entry))) r (now (out .exit)) ⌝ }
+    ensures { λ r. ⌜ Puts (now (out .entry)) 0 (playFrom mostTurns (now (list .entry)) (now (written .entry)) (now (answers .entry)) (transactionBegin (now (block .entry)) chip address (now (list .entry)) (now (written .entry)) (now (read .entry))) 0 0) r (now (out .exit)) ⌝ }
     ensures { λ r. ⌜ r ≤ length (now (out .entry)) ⌝ }
 {
-    match call::begin(call, list, written, read.len()) {
-        Begun::Refused(error) => {
-            let end = Next::End(access::ending::failed(error));
-            finish(out, 0, end, read, 0, 0)
-        }
-        Begun::Accepted(stepped) => go(stepped, list, written, read, answers, out),
-    }
+    let first = turn::begin(block, chip, address, list, written, read);
+    go(first, block, list, written, read, answers, out)
 }

@@ -8,24 +8,18 @@ ghost use Rattle.access.specs.declared.ending.Error.the-variants.{InvalidState}
 ghost use Rattle.access.specs.declared.need.Need.the-variants as need;
 ghost use Rattle.access.specs.Endings.{failed};
 ghost use Rattle.asked.specs.Asked.{Asks};
-ghost use Rattle.access.specs.Numbers.{nextNumber, HoldsWords};
-ghost use Rattle.block.specs.Bytes32.{bytesOf, blockSize};
-ghost use Rattle.images.specs.MasterImage.{masterFields};
 ghost use Rattle.master.specs.Calls.{lentWith};
-ghost use Rattle.master.specs.Steps.{stateAt, handed};
 ghost use Rattle.ch32_i2c.specs.Left.{Leaves, LeavesBlock};
 ghost use Rattle.ch32_i2c.specs.Transfer.{callOf, masterBegin, transactionBegin, transactionStep, writeReadBegin, writeReadStep, writeBegin, writeStep, readBegin, readStep};
 use crate::left;
 use access::Error;
 use access::lent;
 use block::bytes32;
-use driver::call;
-use driver::call::Went;
 use images::master_image;
 use images::numbers;
 use master::Call;
 use master::Kind;
-use master::Move;
+use master_call::begin;
 use master_call::frame;
 use master_call::transaction;
 use master_call::write_read;
@@ -41,20 +35,6 @@ fn call_of(chip: u8, address: u8, kind: Kind) -> Call
         address: address as u16,
         kind,
     }
-}
-
-// Leaves in the block where a call goes, and hands out what it owes there.
-fn leave(block: &mut [u8], call: Call, written: &[u8], to: Move) -> u64
-    requires { ⌜ length (now block) ≡ blockSize ⌝ }
-    ensures { λ r. ⌜ r ≡ nextNumber (handed call (now (written .entry)) to .next) ⌝ }
-    ensures { λ _. ⌜ HoldsWords (handed call (now (written .entry)) to .next) ⌝ }
-    ensures { λ _. ⌜ now (block .exit) ≡ bytesOf (masterFields (stateAt call to)) ⌝ }
-{
-    let stepped = call::handed(call, written, to);
-    let state = stepped.state;
-    let next = stepped.next;
-    bytes32::put(block, master_image::master_fields(state));
-    access::next::number(next)
 }
 
 // `unknown`: an argument is none that a call has.
@@ -74,10 +54,8 @@ fn begin(
     if unknown {
         return left::refusal(Error::InvalidArgument);
     }
-    match call::first_move(call, list, written.len(), read.len()) {
-        Went::To(to) => leave(block, call, written, to),
-        Went::Refused(error) => left::refusal(error),
-    }
+    let asked = begin::begin(block, call, list, written.len(), read.len());
+    asked::fill(asked, written)
 }
 
 // The answer to the access that was handed out last, if that was a byte to keep and the step took it. Nothing else stores payload.

@@ -16,6 +16,8 @@ use images::master_image;
 use images::numbers;
 use master::Call;
 use master::Kind;
+use master_lent::lent;
+use master_lent::lent::Looked;
 use master_step::Here;
 use master_step::go;
 use master_step::put;
@@ -25,8 +27,6 @@ use operations::Run;
 use operations::operation;
 use operations::shape;
 use registers::Register;
-use master_lent::lent;
-use master_lent::lent::Looked;
 
 // The numbers of a call that has done nothing yet, at the first stage of a group.
 fn begun_fields(call: Call, group: u8) -> Fields

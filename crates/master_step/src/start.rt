@@ -121,7 +121,14 @@ fn launch_phase(block: &mut [u8], here: Here, left: u16, phase: u8, answer: u16)
     }
 }
 
-pub fn launch_start(block: &mut [u8], here: Here, left: u16, what: u8, phase: u8, answer: u16) -> u64
+pub fn launch_start(
+    block: &mut [u8],
+    here: Here,
+    left: u16,
+    what: u8,
+    phase: u8,
+    answer: u16,
+) -> u64
     requires { ⌜ length (now block) ≡ blockSize ⌝ }
     ensures { λ r. ⌜ Group 2 here left what phase answer (now (block .entry)) (now (block .exit)) r ⌝ }
 {

@@ -56,7 +56,7 @@ pub fn step(
 }
 
 fn ending_in(number: u64) -> Ending {
-    numbers::ending_of((number / 256 % 256) as u8, (number / 65536 % 65536) as u16)
+    ending::ending_of((number / 256 % 256) as u8, (number / 65536 % 65536) as u16)
 }
 
 // An end of the library as the Rust's. `init` (0) and `init_slave` (5) have no error check; the calls between them are a

@@ -1,14 +1,14 @@
 -- `bench_run::answer::answer` meets its contract.
 -- Assumes nothing.
+use borrow.Author.Needs.{needs}
 use Prim.Native.Nat.{_≤_}
 use mathlib.Core.Path.{sym, _∙_}
 use native.Mathlib.Nat.{le-trans}
+use native.Mathlib.Omega.{arith}
 use lib.ListN.{length}
 use lib.Seq.{length-take-le}
 use Rattle.bench_text.specs.Input.{inputOf}
 use Rattle.bench_run.proofs.PrintedLaws.{bad-printed, call-printed}
-use borrow.Author.Needs.{needs}
-use native.Mathlib.Omega.{arith}
 use Rattle.bench_run.proofs.answer.answer.Statement.{statement}
 use Rattle.bench_run.proofs.answer.answer.Tie as tie
 
@@ -21,7 +21,7 @@ answer-spec =
     (λ c κs. search needs)
     (λ c. search needs)
     (λ c. search needs)
-    (λ c κs. search needs)
+    (λ c. search needs)
     (λ c. let w = rw (c .before .before .before .chip .given .1) at (c .before .before .before .before .before .before .before .before .before .before .before .parse .ensures .1 .1) in let q : 65536 ≤ length (c .before .before .before .before .before .before .before .before .before .before .before .parse .last .1 .0) = omega (arith, c .before .before .before .before .before .before .before .before .before .before .before .parse .kept, c .before .before .before .before .before .before .before .before .before .before .before .before .before .before .before .before .before .before .before .before .before .pre .0) in le-trans (w .0) q)
     (λ c. let w = rw (c .before .before .before .before .chip .given .1) at (c .before .before .before .before .before .before .before .before .before .before .before .before .parse .ensures .1 .1) in let q : 65536 ≤ length (c .before .before .before .before .before .before .before .before .before .before .before .before .parse .last .1 .0) = omega (arith, c .before .before .before .before .before .before .before .before .before .before .before .before .parse .kept, c .before .before .before .before .before .before .before .before .before .before .before .before .before .before .before .before .before .before .before .before .before .before .pre .0) in sym (length-take-le _ (c .before .before .before .before .before .before .before .before .before .before .before .before .parse .last .1 .0) (le-trans (w .0) q)))
     (λ c. let w = rw (c .before .before .before .before .chip .given .1) at (c .before .before .before .before .before .before .before .before .before .before .before .before .parse .ensures .1 .1) in let q : 65536 ≤ length (c .before .before .before .before .before .before .before .before .before .before .before .before .parse .last .1 .1 .0) = omega (arith, c .before .before .before .before .before .before .before .before .before .before .before .before .parse .kept, c .before .before .before .before .before .before .before .before .before .before .before .before .before .before .before .before .before .before .before .before .before .before .pre .1 .0) in le-trans (w .1) q)
@@ -41,4 +41,4 @@ answer-spec =
     (λ c. search needs)
     (λ c. search needs)
     (λ c. search needs)
-    (λ c. let w = rw (c .before .before .before .before .before .before .before .before .before .before .before .before .before .chip .given .1) at (c .before .before .before .before .before .before .before .before .before .before .before .before .before .before .before .before .before .before .before .before .before .parse .ensures .1 .1) in let e = call-printed (inputOf (c .before .before .before .before .before .before .before .before .before .before .before .before .before .before .before .before .before .before .before .before .before .before .before .before .before .before .before .before .before .before .before .args .text .now)) _ _ _ _ _ _ _ _ _ (c .before .before .before .before .before .before .before .before .before .before .before .before .before .before .before .before .before .before .before .before .before .before .before .before .before .before .before .before .before .before .before .args .read .now) (sym (c .before .before .before .before .before .before .before .before .before .before .before .before .before .before .before .before .before .before .before .before .before .parse .ensures .0) ∙ c .before .before .before .before .before .before .before .before .before .before .before .before .before .chip .given .1) (c .before .before .before .before .before .before .before .before .before .before .before .before .before .before .before .before .before .before .before .before .before .parse .ensures .1 .0) (le-trans (w .0) (c .before .before .before .before .before .before .before .before .before .before .before .before .before .before .before .before .before .before .before .before .before .before .before .before .before .before .before .before .before .before .before .pre .0)) (le-trans (w .1) (c .before .before .before .before .before .before .before .before .before .before .before .before .before .before .before .before .before .before .before .before .before .before .before .before .before .before .before .before .before .before .before .pre .1 .0)) (le-trans (w .3) (c .before .before .before .before .before .before .before .before .before .before .before .before .before .before .before .before .before .before .before .before .before .before .before .before .before .before .before .before .before .before .before .pre .1 .1 .0)) in (rw e (rw (c .before .before .before .before .before .before .before .before .before .before .transaction-of .ensures) at (c .before .before .before .before .play .ensures .0)), c .before .before .before .before .play .ensures .1)))
+    (λ c. let w = rw (c .before .before .before .before .before .before .before .before .before .before .before .before .before .before .chip .given .1) at (c .before .before .before .before .before .before .before .before .before .before .before .before .before .before .before .before .before .before .before .before .before .before .parse .ensures .1 .1) in let e = call-printed (inputOf (c .before .before .before .before .before .before .before .before .before .before .before .before .before .before .before .before .before .before .before .before .before .before .before .before .before .before .before .before .before .before .before .before .args .text .now)) _ _ _ _ _ _ _ _ _ (c .before .before .before .before .before .before .before .before .before .before .before .before .before .before .before .before .before .before .before .before .before .before .before .before .before .before .before .before .before .before .before .before .args .read .now) (sym (c .before .before .before .before .before .before .before .before .before .before .before .before .before .before .before .before .before .before .before .before .before .before .parse .ensures .0) ∙ c .before .before .before .before .before .before .before .before .before .before .before .before .before .before .chip .given .1) (c .before .before .before .before .before .before .before .before .before .before .before .before .before .before .before .before .before .before .before .before .before .before .parse .ensures .1 .0) (le-trans (w .0) (c .before .before .before .before .before .before .before .before .before .before .before .before .before .before .before .before .before .before .before .before .before .before .before .before .before .before .before .before .before .before .before .before .pre .0)) (le-trans (w .1) (c .before .before .before .before .before .before .before .before .before .before .before .before .before .before .before .before .before .before .before .before .before .before .before .before .before .before .before .before .before .before .before .before .pre .1 .0)) (le-trans (w .3) (c .before .before .before .before .before .before .before .before .before .before .before .before .before .before .before .before .before .before .before .before .before .before .before .before .before .before .before .before .before .before .before .before .pre .1 .1 .0)) in (rw e (c .before .before .before .before .before .play .ensures .0), c .before .before .before .before .before .play .ensures .1)))

@@ -1,8 +1,7 @@
 -- `ch32_i2c::transfer::begin` meets its contract.
 -- Assumes nothing.
 use borrow.Author.Needs.{needs}
-use mathlib.Core.Path.{_∙_, sym}
-use Rattle.ch32_i2c.proofs.MasterLeaves.{begin-short, begin-unknown, begin-accepted, begin-refused}
+use Rattle.ch32_i2c.proofs.MasterLeaves.{begin-short, begin-unknown, begin-begun}
 use Rattle.ch32_i2c.proofs.transfer.begin.Statement.{statement}
 use Rattle.ch32_i2c.proofs.transfer.begin.Tie as tie
 
@@ -15,10 +14,6 @@ begin-spec =
     (λ c κs. search needs)
     (λ c. begin-unknown _ _ _ _ _ _ (c .before .before .if1 .left) (c .before .if2 .taken) (c .refusal2 .ensures))
     (λ c κs. search needs)
-    (λ c. search needs)
     (λ c κs. search needs)
     (λ c. search needs)
-    (λ c κs. search needs)
-    (λ c. search needs)
-    (λ c. begin-accepted _ _ _ _ _ _ (c .before .before .before .before .before .before .before .before .before .if1 .left) (c .before .before .before .before .before .before .before .before .if2 .left) _ (sym (c .before .before .before .before .before .to .given .1) ∙ c .before .before .before .before .before .before .before .first-move .ensures) (c .before .before .leave .ensures .0) (c .before .before .leave .ensures .1 .0) _ (c .before .before .leave .ensures .1 .1))
-    (λ c. begin-refused _ _ _ _ _ _ (c .before .before .before .before .before .before .if1 .left) (c .before .before .before .before .before .if2 .left) _ (sym (c .before .before .error .given .1) ∙ c .before .before .before .before .first-move .ensures) (c .refusal3 .ensures)))
+    (λ c. begin-begun _ _ _ _ _ _ (c .before .before .before .before .before .before .if1 .left) (c .before .before .before .before .before .if2 .left) _ _ (c .before .before .before .begin .ensures) (c .fill .ensures)))
