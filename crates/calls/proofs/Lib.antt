@@ -1,0 +1,5 @@
+pub mod OnBlockLaws
+pub mod KeptLaws
+pub mod TransferLaws
+pub mod InitLaws
+pub mod ResponseLaws

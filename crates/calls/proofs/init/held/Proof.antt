@@ -1,0 +1,16 @@
+-- `calls::init::held` meets its contract.
+-- Assumes nothing.
+use borrow.Author.Needs.{needs}
+use borrow.Author.Tests.{eq-eqb, ne-eqb}
+use Rattle.calls.proofs.InitLaws.{init-short, init-whole}
+use Rattle.calls.proofs.init.held.Statement.{statement}
+use Rattle.calls.proofs.init.held.Tie as tie
+
+pub held-spec : {M : Type 1} → statement M
+held-spec =
+    tie.close
+    (tie.spec
+    (λ c. init-short _ (c .if1 .taken))
+    (λ c κs. search needs)
+    (λ c κs. search needs)
+    (λ c. init-whole _ _ _ (c .before .before .if1 .left) (c .before .fields .ensures) (c .init-in .ensures)))

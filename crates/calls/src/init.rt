@@ -1,0 +1,82 @@
+// `init`.
+ghost use mathlib.Core.Path.{_≡_};
+ghost use lib.ListN.{length};
+ghost use Rattle.block.specs.Bytes32.{blockSize};
+ghost use Rattle.calls.specs.OnBlock.{standing, stepOn, Does};
+ghost use Rattle.calls.specs.Init.{initHeld, initOn, initBegin};
+use crate::stepped;
+use access::Error;
+use access::Need;
+use access::need;
+use block::bytes32;
+use images::init_image;
+use images::init_image::InitFound;
+use registers::Chip;
+use timing::init;
+use timing::init::Stage;
+use timing::init::State;
+use timing::settings::Duty;
+use timing::settings::Timed;
+
+// A state in its block, with what it needs.
+fn stands(block: &mut [u8], state: State) -> Need
+    requires { ⌜ length (now block) ≡ blockSize ⌝ }
+    ensures { λ r. ⌜ Does (standing initOn state) r (now (block .exit)) ⌝ }
+{
+    bytes32::put(block, init_image::init_fields(state));
+    init::owed(state)
+}
+
+pub fn begin(
+    block: &mut [u8],
+    unknown: bool,
+    input: u32,
+    frequency: u32,
+    duty: Duty,
+    chip: Chip,
+) -> Need
+    ensures { λ r. ⌜ Does (initBegin unknown chip input frequency duty (now (block .entry))) r (now (block .exit)) ⌝ }
+{
+    if block.len() != bytes32::BLOCK_SIZE {
+        return stepped::refused(Error::InvalidState);
+    }
+    if unknown {
+        return stepped::refused(Error::InvalidArgument);
+    }
+    match timing::timing::timing(input, frequency, duty, chip) {
+        Timed::At(settings) => stands(
+            block,
+            State {
+                chip,
+                timing: settings,
+                stage: Stage::DisableRead,
+                saved: 0,
+            },
+        ),
+        Timed::Refused(error) => stepped::refused(error),
+    }
+}
+
+// The state that a block holds.
+fn held(block: &[u8]) -> InitFound
+    ensures { λ r. ⌜ r ≡ initHeld (now (block .entry)) ⌝ }
+{
+    if block.len() != bytes32::BLOCK_SIZE {
+        return InitFound::Nothing;
+    }
+    init_image::init_in(bytes32::fields(block))
+}
+
+pub fn step(block: &mut [u8], answer: u16) -> Need
+    ensures { λ r. ⌜ Does (stepOn initOn (now (block .entry)) answer) r (now (block .exit)) ⌝ }
+{
+    match held(block) {
+        InitFound::Nothing => stepped::refused(Error::InvalidState),
+        InitFound::At(state) => {
+            if need::is_end(init::owed(state)) {
+                return stepped::refused(Error::InvalidState);
+            }
+            stands(block, init::advance(state, answer))
+        }
+    }
+}
