@@ -8,7 +8,7 @@ use Prim.Native.Nat.{ℕ, _≤_}
 use native.Mathlib.Omega.{arith}
 use lib.Dec.{eqb, ltb}
 use lib.ListN.{length}
-use borrow.Author.Tests.{eqb-true, ltb-false, not-false, le-ltb}
+use borrow.Author.Tests.{eqb-true, eq-eqb, ltb-false, not-false, le-ltb}
 use Rattle.access.specs.declared.ending.Error.{Error}
 use Rattle.access.specs.declared.ending.Error.the-variants.{InvalidState, InvalidArgument, BufferTooLong}
 use Rattle.access.specs.Endings.{failed}
@@ -46,17 +46,17 @@ use Rattle.slave.proofs.CallAgrees.{accepted-shown}
 use Rattle.slave.proofs.FitsKept as slaveFits
 use Rattle.slave_driver.specs.Lent as slaveLent
 use Rattle.images.specs.Numbers.{chipOf}
-use Rattle.ch32_i2c.specs.Left.{left, refusedWith}
+use Rattle.calls.specs.OnBlock.{beginOn}
+use Rattle.calls.specs.Response.{responseBegin}
+use Rattle.ch32_i2c.specs.Left.{left, beginLeft}
 use Rattle.ch32_i2c.specs.Fed.{Entry, Makes}
 use Rattle.ch32_i2c.specs.Init as cInit
-use Rattle.ch32_i2c.specs.Transfer.{begunLeft, masterBegin}
+use Rattle.ch32_i2c.specs.Transfer.{masterBegin}
 use Rattle.ch32_i2c.specs.InitSlave as cInitSlave
-use Rattle.ch32_i2c.specs.Response as response
 use Rattle.ch32_i2c.specs.Demands.{Call, unknown, ownRefusal, Accepted, timedRefusal, IsMet}
 use Rattle.ch32_i2c.proofs.Carried.{Carries, carried, unread, carries-unread}
 use Rattle.ch32_i2c.proofs.Recorded.{Recorded, recorded}
 use Rattle.ch32_i2c.proofs.MetEnds.{MetNeed, shown-met}
-use Rattle.ch32_i2c.proofs.LeavesLaws.{else}
 use Rattle.ch32_i2c.proofs.InitCarried.{initImage, initEntry, init-carries, initSlaveImage, initSlaveEntry, init-slave-carries, Any}
 use Rattle.ch32_i2c.proofs.TransferCarried.{transferEntry, transfer-carries}
 use Rattle.ch32_i2c.proofs.TransferCarried as transfer
@@ -107,11 +107,8 @@ module _ (c : master.Call) (l : Lent) (accepted : refusal c l ≡ none) where
 
   module _ (u : Bool) (block bytes : List ℕ) (size : length block ≡ blockSize) (known : u ≡ false) (room : length bytes ≡ l .room) where
     begin-left : transferEntry c l u .begin block bytes ≡ left (filled (l .written) (owed (shapeOf c l) (start (shapeOf c l)))) (transfer.imageOf c l (start (shapeOf c l))) bytes
-    unfolding masterBegin begin owed
-    begin-left =
-        sym (else block u (refusedWith InvalidArgument block bytes) (begunLeft (begin c (lentWith (l .list) (l .written) (length bytes))) block bytes) (refusedWith InvalidState block bytes) size known)
-        ∙ ap (λ (n : ℕ). begunLeft (begin c (lentWith (l .list) (l .written) n)) block bytes) room
-        ∙ ap (λ (o : Option Error). begunLeft (begunWith o c l) block bytes) accepted
+    unfolding masterBegin beginOn refusal owed
+    begin-left = rw (eq-eqb (length block) blockSize size, known, room, accepted)
 
     transfer-runs-with : (e : Entry) → Carries (master (shapeOf c l)) (l .written) (l .room) e (transfer.imageOf c l) (transfer.Fit c l)
         → e .begin block bytes ≡ left (filled (l .written) (owed (shapeOf c l) (start (shapeOf c l)))) (transfer.imageOf c l (start (shapeOf c l))) bytes → Runs e block bytes (callShown c l)
@@ -142,11 +139,10 @@ module _ (chip : ℕ) (x : slave.Kind) (l : SlaveLent) (accepted : sizeOf x l �
   setting = settingOf (chipOf chip) x l
 
   response-left : responseEntry (chipOf chip) x l chip .begin block bytes ≡ left (filled (slaveCalls.bytesOf x l) (slaveMachine.owed setting (slaveMachine.start x))) (response-carried.imageOf (chipOf chip) x l (slaveMachine.start x)) bytes
-  unfolding response.slaveBegin slaveSteps.begin slaveMachine.owed
+  unfolding beginOn slaveMachine.owed
   response-left =
-      sym (else block (ltb 3 chip) (refusedWith InvalidArgument block bytes) (response.begunLeft (slaveSteps.begin (chipOf chip) x (slaveLent.lentWith (l .reply) (length bytes))) block bytes) (refusedWith InvalidState block bytes) size known)
-      ∙ ap (λ (n : ℕ). response.begunLeft (slaveSteps.begin (chipOf chip) x (slaveLent.lentWith (l .reply) n)) block bytes) room
-      ∙ ap (λ (b : Bool). response.begunLeft (slaveSteps.begunWith (cond b (some BufferTooLong) none) setting (slaveCalls.bytesOf x l)) block bytes) (le-ltb 65535 (sizeOf x l) accepted)
+      ap (λ (n : ℕ). beginLeft (slaveCalls.bytesOf x l) (responseBegin (sizeOf x (slaveLent.lentWith (l .reply) n)) chip x block) bytes) room
+      ∙ rw (eq-eqb (length block) blockSize size, known, le-ltb 65535 (sizeOf x l) accepted)
 
   response-runs-with : (e : Entry) → Carries (slaveMachine.slave setting) (slaveCalls.bytesOf x l) (l .room) e (response-carried.imageOf (chipOf chip) x l) (response-carried.Fit (chipOf chip) x l)
       → e .begin block bytes ≡ left (filled (slaveCalls.bytesOf x l) (slaveMachine.owed setting (slaveMachine.start x))) (response-carried.imageOf (chipOf chip) x l (slaveMachine.start x)) bytes
@@ -197,10 +193,8 @@ init-met s = init-stage-met (s .stage) s
 module _ (chip input frequency duty : ℕ) (block : List ℕ) (size : length block ≡ blockSize) (known : ltb 3 chip || ltb 1 duty ≡ false) where
   init-begun : (t : Timing) → timing (chipOf chip) input frequency (cInit.dutyOf duty) ≡ timed.At t
       → cInit.initBegin block chip input frequency duty ≡ left (filled [] (initMachine.owed (initMachine.started (chipOf chip) t))) (initImage (initMachine.started (chipOf chip) t)) []
-  unfolding cInit.initBegin initMachine.begin
-  init-begun t q =
-      sym (else block (ltb 3 chip || ltb 1 duty) (refusedWith InvalidArgument block []) (cInit.begunLeft (initMachine.begin (chipOf chip) input frequency (cInit.dutyOf duty)) block) (refusedWith InvalidState block []) size known)
-      ∙ ap (λ (y : Timed). cInit.begunLeft (initMachine.begunAt (chipOf chip) y) block) q
+  unfolding cInit.initBegin beginOn
+  init-begun t q = rw (eq-eqb (length block) blockSize size, known, q)
 
   init-runs-at : (x : Timed) → timing (chipOf chip) input frequency (cInit.dutyOf duty) ≡ x → timedRefusal x ≡ none → Runs (initEntry chip input frequency duty) block [] (shownTimed chip x)
   init-runs-at (timed.Refused e) q r = let z : _≡_ {A = ℕ} 0 1 = cc in absurd (omega arith)
@@ -241,10 +235,8 @@ module _ (ten address has second general stretching : ℕ) (block : List ℕ) (s
     init-shown answers = ap (λ (o : Option Error). slaveCalls.seenAfter o (shownFrom initSlaveMachine.initMachine [] (initSlaveMachine.started config) answers)) (sym accepted)
 
     slave-begun : cInitSlave.initSlaveBegin block ten address has second general stretching ≡ left (filled [] (initSlaveMachine.owed (initSlaveMachine.started config))) (initSlaveImage (initSlaveMachine.started config)) []
-    unfolding cInitSlave.initSlaveBegin initSlaveMachine.begin
-    slave-begun =
-        sym (else block (cInitSlave.unknownFlags ten has general stretching) (refusedWith InvalidArgument block []) (cInitSlave.begunLeft (initSlaveMachine.begin config) block) (refusedWith InvalidState block []) size known)
-        ∙ ap (λ (o : Option Error). cInitSlave.begunLeft (initSlaveMachine.begunWith o config) block) accepted
+    unfolding cInitSlave.initSlaveBegin beginOn
+    slave-begun = rw (eq-eqb (length block) blockSize size, known, accepted)
 
     pub init-slave-runs : Runs (initSlaveEntry ten address has second general stretching) block [] (initShown config)
     init-slave-runs =

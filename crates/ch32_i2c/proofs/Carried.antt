@@ -1,8 +1,9 @@
 -- A machine whose states stand in blocks is seen through begin and step as it is.
 -- Assumes nothing.
 use mathlib.Core.Path.{_≡_, refl, ap, sym, subst, _∙_}
-use mathlib.Core.Bool.{Bool, true, false, true≢false}
+use mathlib.Core.Bool.{Bool, true, false, cond, not, true≢false}
 use mathlib.Core.List.{List, [], _∷_}
+use mathlib.Core.Option.{Option, some}
 use Prim.Native.Nat.{ℕ, suc}
 use native.Mathlib.Omega.{arith}
 use lib.ListN.{length, length-set}
@@ -14,7 +15,9 @@ use Rattle.access.specs.declared.next.Next.the-variants as next
 use Rattle.access.specs.Endings.{failed}
 use Rattle.access.specs.Record.{Shown}
 use Rattle.access.specs.Machine.{Machine, filled, kept, seenOwed, seenAnswered, shownFrom, isEnd}
-use Rattle.ch32_i2c.specs.Left.{Left, left, refusedWith}
+use Rattle.calls.specs.OnBlock.{OnBlock, owedBy, movedBy, refused, stepOn}
+use Rattle.calls.proofs.KeptLaws.{end-keeps}
+use Rattle.ch32_i2c.specs.Left.{Left, left, refusedWith, beginLeft, stepLeft}
 use Rattle.ch32_i2c.specs.Fed.{Entry, leftsFrom, lastFrom, handedOut, nextsOf, inTurn, stored, Still, EndsStill, Makes}
 use Rattle.ch32_i2c.specs.Fed as fed
 
@@ -198,3 +201,18 @@ carries-unread {m} {bytes} {c} {image} {Good} k =
           ∙ ap (λ (x : List ℕ). left (filled bytes (m .need (m .move s a))) (image (m .move s a)) (kept (m .need s) a x)) (sym (nothing-read r e));
       ended = λ s r a g e q. k .ended s [] a g refl q ∙ ap (λ (x : List ℕ). refusedWith InvalidState (image s) x) (sym (nothing-read r e));
     }
+
+-- ---- a call on a block whose states a machine comes to
+
+module _ {m : Machine} (c : OnBlock) (at : m .State → c .machine .State) (Good : m .State → Type 0) (needs : (s : m .State) → c .machine .need (at s) ≡ m .need s)
+    (moves : (s : m .State) (a : ℕ) → c .machine .move (at s) a ≡ at (m .move s a)) (held : (s : m .State) → Good s → c .held (c .image (at s)) ≡ some (at s)) (bytes : List ℕ) (s : m .State) (r : List ℕ) (a : ℕ) (g : Good s) where
+  abbrev byHeld : Option (c .machine .State) → Left
+  byHeld o = beginLeft bytes (cond (not (isEnd (owedBy c o))) (movedBy c o (c .image (at s)) a) (refused InvalidState (c .image (at s)))) (kept (owedBy c o) a r)
+
+  pub step-taken : isEnd (m .need s) ≡ false → stepLeft c bytes (c .image (at s)) r a ≡ left (filled bytes (m .need (m .move s a))) (c .image (at (m .move s a))) (kept (m .need s) a r)
+  unfolding stepOn
+  step-taken e = ap byHeld (held s g) ∙ rw (needs s, e, moves s a, needs (m .move s a))
+
+  pub step-ended : isEnd (m .need s) ≡ true → stepLeft c bytes (c .image (at s)) r a ≡ refusedWith InvalidState (c .image (at s)) r
+  unfolding stepOn
+  step-ended e = ap byHeld (held s g) ∙ rw (needs s, e, end-keeps (m .need s) a r e)

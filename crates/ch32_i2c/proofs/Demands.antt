@@ -51,12 +51,11 @@ use Rattle.ch32_i2c.specs.Left.{Left, refusedWith}
 use Rattle.ch32_i2c.specs.Fed.{Makes, struckBy}
 use Rattle.ch32_i2c.specs.Init as cInit
 use Rattle.ch32_i2c.specs.Transfer.{callOf, masterBegin}
-use Rattle.ch32_i2c.specs.Transfer as cTransfer
 use Rattle.ch32_i2c.specs.InitSlave as cInitSlave
-use Rattle.ch32_i2c.specs.Response as cResponse
 use Rattle.ch32_i2c.specs.Demands.{Call, init, transaction, writeRead, write, read, initSlave, listen, respondToWrite, respondToRead, entryOf, Reads, unknown, ownRefusal, refusalOf, Accepted, timedRefusal, rust, ours, endAsTheRust, timedShown, NoneAdded, IsMet, takes, Demand1, Demand2, Demand3, SeenAlike, SameRuns, transactions, writeReads, writes, reads, writtenBy, recordAfter, endAfter, struckAfter}
 use Rattle.ch32_i2c.proofs.Recorded.{seenOf, asSeen, record-is, end-is, struck-is}
 use Rattle.ch32_i2c.proofs.CallsRun.{parts, Runs, transfer-runs, write-runs, response-runs, unread-runs, init-runs, init-slave-runs, shownTimed, small}
+use Rattle.ch32_i2c.proofs.Refuses.{transfer-refuses, response-refuses, init-refuses, init-slave-refuses}
 use Rattle.ch32_i2c.proofs.Stops.{init-stops, master-stops, init-slave-stops, slave-stops}
 
 -- ---- what the machine of a call shows
@@ -211,45 +210,6 @@ shown-refused (respondToRead chip reply) room e q answers = slave-refused chip R
 
 -- ---- begin refuses with the first cause
 
-refused-by : (t u : Bool) (own : Option Error) (accepted : Left) (b r : List ℕ) (e : Error) → (own ≡ some e → accepted ≡ refusedWith e b r)
-    → refuse (not t) InvalidState (refuse u InvalidArgument own) ≡ some e → cond t (cond u (refusedWith InvalidArgument b r) accepted) (refusedWith InvalidState b r) ≡ refusedWith e b r
-refused-by false u own accepted b r e h q = let z : InvalidState ≡ e = cc in ap (λ (x : Error). refusedWith x b r) z
-refused-by true true own accepted b r e h q = let z : InvalidArgument ≡ e = cc in ap (λ (x : Error). refusedWith x b r) z
-refused-by true false own accepted b r e h q = h q
-
-transfer-refuses : (u : Bool) (c : master.Call) (b : List ℕ) (l : Lent) (r : List ℕ) (e : Error) → refuse (not (eqb (length b) blockSize)) InvalidState (refuse u InvalidArgument (refusal c l)) ≡ some e
-    → masterBegin u c b l r ≡ refusedWith e b r
-unfolding masterBegin masterSteps.begin
-transfer-refuses u c b l r e q =
-    refused-by (eqb (length b) blockSize) u (refusal c l) (cTransfer.begunLeft (masterSteps.begin c l) b r) b r e (λ k. ap (λ (o : Option Error). cTransfer.begunLeft (masterSteps.begunWith o c l) b r) k) q
-
-response-refuses : (x : slave.Kind) (b : List ℕ) (chip : ℕ) (reply r : List ℕ) (e : Error)
-    → refuse (not (eqb (length b) blockSize)) InvalidState (refuse (ltb 3 chip) InvalidArgument (sizeRefusal (sizeOf x (slaveLent.lentWith reply (length r))))) ≡ some e
-    → cResponse.slaveBegin x b chip reply r ≡ refusedWith e b r
-unfolding cResponse.slaveBegin slaveSteps.begin
-response-refuses x b chip reply r e q =
-    let l = slaveLent.lentWith reply (length r) in
-    refused-by (eqb (length b) blockSize) (ltb 3 chip) (sizeRefusal (sizeOf x l)) (cResponse.begunLeft (slaveSteps.begin (chipOf chip) x l) b r) b r e
-    (λ k. ap (λ (o : Option Error). cResponse.begunLeft (slaveSteps.begunWith o (slaveCalls.settingOf (chipOf chip) x l) (slaveCalls.bytesOf x l)) b r) k) q
-
-timed-left : (chip : ℕ) (x : Timed) (b : List ℕ) (e : Error) → timedRefusal x ≡ some e → cInit.begunLeft (initMachine.begunAt (chipOf chip) x) b ≡ refusedWith e b []
-timed-left chip (timed.At t) b e q = let z : _≡_ {A = ℕ} 0 1 = cc in absurd (omega arith)
-timed-left chip (timed.Refused f) b e q = let z : f ≡ e = cc in ap (λ (x : Error). refusedWith x b []) z
-
-init-refuses : (chip input frequency duty : ℕ) (b : List ℕ) (e : Error) → refusalOf (init chip input frequency duty) (length b) 0 ≡ some e → cInit.initBegin b chip input frequency duty ≡ refusedWith e b []
-unfolding cInit.initBegin initMachine.begin
-init-refuses chip input frequency duty b e q =
-    refused-by (eqb (length b) blockSize) (ltb 3 chip || ltb 1 duty) (timedRefusal (timing (chipOf chip) input frequency (cInit.dutyOf duty))) (cInit.begunLeft (initMachine.begin (chipOf chip) input frequency (cInit.dutyOf duty)) b) b [] e
-    (timed-left chip (timing (chipOf chip) input frequency (cInit.dutyOf duty)) b e) q
-
-init-slave-refuses : (ten address has second general stretching : ℕ) (b : List ℕ) (e : Error) → refusalOf (initSlave ten address has second general stretching) (length b) 0 ≡ some e
-    → cInitSlave.initSlaveBegin b ten address has second general stretching ≡ refusedWith e b []
-unfolding cInitSlave.initSlaveBegin initSlaveMachine.begin
-init-slave-refuses ten address has second general stretching b e q =
-    let c = cInitSlave.configOf ten address has second general stretching in
-    refused-by (eqb (length b) blockSize) (cInitSlave.unknownFlags ten has general stretching) (initSlaveMachine.initRefusal c) (cInitSlave.begunLeft (initSlaveMachine.begin c) b) b [] e
-    (λ k. ap (λ (o : Option Error). cInitSlave.begunLeft (initSlaveMachine.begunWith o c) b) k) q
-
 -- where nothing is lent to read
 nothing-lent : (e : Error) (b bytes : List ℕ) (h : Left) → bytes ≡ [] → h ≡ refusedWith e b [] → h ≡ refusedWith e b bytes
 nothing-lent e b bytes h q k = k ∙ ap (λ (r : List ℕ). refusedWith e b r) (sym q)
@@ -261,9 +221,9 @@ refuses (writeRead chip address written) b r k e q = transfer-refuses (ltb 3 chi
 refuses (write chip address option written) b r k e q = nothing-lent e b r _ k (transfer-refuses (ltb 3 chip || ltb 5 option) (callOf chip address (kind.Write (frameOptionsOf option))) b (lentWith [] written 0) [] e q)
 refuses (read chip address option) b r k e q = transfer-refuses (ltb 3 chip || ltb 5 option) (callOf chip address (kind.Read (frameOptionsOf option))) b (lentWith [] [] (length r)) r e q
 refuses (initSlave ten address has second general stretching) b r k e q = nothing-lent e b r _ k (init-slave-refuses ten address has second general stretching b e q)
-refuses (listen chip) b r k e q = nothing-lent e b r _ k (response-refuses Listen b chip [] [] e q)
-refuses (respondToWrite chip) b r k e q = response-refuses RespondToWrite b chip [] r e q
-refuses (respondToRead chip reply) b r k e q = nothing-lent e b r _ k (response-refuses RespondToRead b chip reply [] e q)
+refuses (listen chip) b r k e q = nothing-lent e b r _ k (response-refuses 0 chip Listen [] b [] e q)
+refuses (respondToWrite chip) b r k e q = response-refuses (length r) chip RespondToWrite [] b r e q
+refuses (respondToRead chip reply) b r k e q = nothing-lent e b r _ k (response-refuses (length reply) chip RespondToRead reply b [] e q)
 
 -- ---- a step that is not taken
 
@@ -271,15 +231,15 @@ stopped : (b bytes : List ℕ) (h : Left) → bytes ≡ [] → h ≡ refusedWith
 stopped b bytes h q k = nothing-lent InvalidState b bytes h q k
 
 stops : (c : Call) (block bytes : List ℕ) → Reads c bytes → Bytes block → takes c block bytes ≡ false → (a : ℕ) → entryOf c .step block bytes a ≡ refusedWith InvalidState block bytes
-stops (init chip input frequency duty) b r k w q a = stopped b r _ k (init-stops b a w q)
-stops (transaction chip address list written) b r k w q a = master-stops transactionEntry b list written r a w q
-stops (writeRead chip address written) b r k w q a = master-stops writeReadEntry b [] written r a w q
-stops (write chip address option written) b r k w q a = stopped b r _ k (master-stops writeEntry b [] written [] a w q)
-stops (read chip address option) b r k w q a = master-stops readEntry b [] [] r a w q
-stops (initSlave ten address has second general stretching) b r k w q a = stopped b r _ k (init-slave-stops b a w q)
-stops (listen chip) b r k w q a = stopped b r _ k (slave-stops listenEntry b [] [] a w q)
-stops (respondToWrite chip) b r k w q a = slave-stops respondToWriteEntry b [] r a w q
-stops (respondToRead chip reply) b r k w q a = stopped b r _ k (slave-stops respondToReadEntry b reply [] a w q)
+stops (init chip input frequency duty) b r k w q a = stopped b r _ k (init-stops b a q)
+stops (transaction chip address list written) b r k w q a = master-stops transactionEntry b list written r a q
+stops (writeRead chip address written) b r k w q a = master-stops writeReadEntry b [] written r a q
+stops (write chip address option written) b r k w q a = stopped b r _ k (master-stops writeEntry b [] written [] a q)
+stops (read chip address option) b r k w q a = master-stops readEntry b [] [] r a q
+stops (initSlave ten address has second general stretching) b r k w q a = stopped b r _ k (init-slave-stops b a q)
+stops (listen chip) b r k w q a = stopped b r _ k (slave-stops Listen b (slaveLent.lentWith [] 0) [] [] a q)
+stops (respondToWrite chip) b r k w q a = slave-stops RespondToWrite b (slaveLent.lentWith [] (length r)) [] r a q
+stops (respondToRead chip reply) b r k w q a = stopped b r _ k (slave-stops RespondToRead b (slaveLent.lentWith reply 0) reply [] a q)
 
 -- ---- demands 1 and 2
 

@@ -1,7 +1,9 @@
 -- A block that is the image of a state holds it.
 -- Assumes nothing.
-use mathlib.Core.Path.{_≡_, refl, ap, _∙_}
-use mathlib.Core.Bool.{Bool, cond}
+use mathlib.Core.Path.{_≡_, refl, ap, sym, _∙_}
+use mathlib.Core.Bool.{Bool, true, false, cond}
+use mathlib.Core.List.{List}
+use native.Mathlib.Omega.{arith}
 use Prim.Native.Nat.{ℕ}
 use lib.Dec.{eqb}
 use lib.ListN.{length}
@@ -13,6 +15,9 @@ use Rattle.timing.specs.declared.init.State as init
 use Rattle.master.specs.declared.state.State as master
 use Rattle.slave.specs.declared.init.InitState.{InitState}
 use Rattle.slave.specs.declared.state.State as slave
+use Rattle.slave.specs.declared.state.Kind.{Kind}
+use Rattle.slave_step.specs.Held.{heldIn}
+use Rattle.slave_step.proofs.LinkLaws.{held-kind, kind-back}
 use Rattle.images.specs.declared.init_image.InitFound.the-variants as initFound
 use Rattle.images.specs.declared.master_image.MasterFound.the-variants as masterFound
 use Rattle.images.specs.declared.init_slave_image.InitSlaveFound.the-variants as initSlaveFound
@@ -27,10 +32,10 @@ use Rattle.images.proofs.InitImageLaws.{init-found}
 use Rattle.images.proofs.MasterImageLaws.{master-found}
 use Rattle.images.proofs.InitSlaveImageLaws.{init-slave-found}
 use Rattle.images.proofs.SlaveImageLaws.{slave-found}
-use Rattle.ch32_i2c.specs.Init.{initHeld}
-use Rattle.ch32_i2c.specs.Transfer.{masterHeld}
-use Rattle.ch32_i2c.specs.InitSlave.{initSlaveHeld}
-use Rattle.ch32_i2c.specs.Response.{slaveHeld}
+use Rattle.calls.specs.Init.{initHeld}
+use Rattle.calls.specs.Transfer.{masterHeld}
+use Rattle.calls.specs.InitSlave.{initSlaveHeld}
+use Rattle.calls.specs.Response.{slaveHeld}
 
 -- what a block of 32 bytes that says f is found to hold, and the same where the entry is asked first
 held : {F : Type 0} (find : Fields → F) (nothing : F) (f : Fields) → cond (eqb (length (bytesOf f)) blockSize) (find (fieldsOf (bytesOf f))) nothing ≡ find f
@@ -68,3 +73,12 @@ slave-held s =
     held (λ (f : Fields). cond (eqb (f .entry) (slaveImage.kindEntry (s .kind))) (slaveIn f) slaveFound.Nothing) slaveFound.Nothing (slaveFields s)
     ∙ asked slaveIn slaveFound.Nothing (slaveFields s) (slaveImage.kindEntry (s .kind)) (slave-entry s)
     ∙ slave-found s
+
+-- what is found in a block of a kind's entry is of that kind
+pub slave-kind : (x : Kind) (b : List ℕ) (s : slave.State) → slaveHeld (slaveImage.kindEntry x) b ≡ slaveFound.At s → s .kind ≡ x
+unfolding slaveHeld heldIn
+slave-kind x b s e = go (eqb (length b) blockSize) e
+  where
+    go : (t : Bool) → cond t (cond (eqb (fieldsOf b .entry) (slaveImage.kindEntry x)) (slaveIn (fieldsOf b)) slaveFound.Nothing) slaveFound.Nothing ≡ slaveFound.At s → s .kind ≡ x
+    go true q = sym (held-kind (slaveImage.kindEntry x) b s q) ∙ kind-back x
+    go false q = let z : _≡_ {A = ℕ} 0 1 = cc in absurd (omega arith)

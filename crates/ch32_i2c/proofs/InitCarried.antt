@@ -1,54 +1,50 @@
 -- Begin and step of `init` and of `init_slave` make what their machines show.
 -- Assumes nothing.
-use mathlib.Core.Path.{_≡_, refl, ap, _∙_}
+use mathlib.Core.Path.{_≡_, refl, ap, sym, _∙_}
 use mathlib.Core.Bool.{true, false}
 use mathlib.Core.List.{List, []}
+use mathlib.Core.Option.{some}
 use Prim.Native.Nat.{ℕ}
 use lib.ListN.{length}
 use Rattle.access.specs.declared.ending.Error.the-variants.{InvalidState}
-use Rattle.access.specs.declared.need.Need.{Need}
-use Rattle.access.specs.declared.need.Need.the-variants as need
-use Rattle.access.specs.Machine.{Machine, filled, kept, isEnd, stepNext, stepState}
+use Rattle.access.specs.Machine.{Machine, filled, kept, isEnd}
 use Rattle.block.specs.Bytes32.{bytesOf}
 use Rattle.timing.specs.declared.init.State.{State}
 use Rattle.timing.specs.Machine as timing
 use Rattle.slave.specs.declared.init.InitState.{InitState}
 use Rattle.slave.specs.Init as slave
-use Rattle.images.specs.declared.init_image.InitFound.{InitFound}
-use Rattle.images.specs.declared.init_slave_image.InitSlaveFound.{InitSlaveFound}
 use Rattle.images.specs.InitImage.{initFields}
 use Rattle.images.specs.InitSlaveImage.{initSlaveFields}
-use Rattle.ch32_i2c.specs.Left.{Left, left, refusedWith}
+use Rattle.calls.specs.OnBlock.{OnBlock}
+use Rattle.calls.specs.Init as initCall
+use Rattle.calls.specs.InitSlave as initSlaveCall
+use Rattle.ch32_i2c.specs.Left.{left, refusedWith, stepLeft}
 use Rattle.ch32_i2c.specs.Init as init
 use Rattle.ch32_i2c.specs.InitSlave as initSlave
 use Rattle.ch32_i2c.specs.Fed.{Entry}
 use Rattle.ch32_i2c.proofs.HeldLaws.{init-held, init-slave-held}
-use Rattle.ch32_i2c.proofs.Carried.{Carries, nothing-read}
+use Rattle.ch32_i2c.proofs.Carried.{Carries, nothing-read, step-taken, step-ended}
 
 -- every state fits where nothing is lent
 abbrev pub Any : {S : Type 0} → S → Type 0
 Any s = Unit {0}
 
-kept-nothing : (n : Need) (a : ℕ) → [] ≡ kept n a []
-kept-nothing (need.Read x) a = refl
-kept-nothing (need.Write x v) a = refl
-kept-nothing need.Clock a = refl
-kept-nothing (need.Send p) a = refl
-kept-nothing (need.Keep p) a = refl
-kept-nothing need.Drop a = refl
-kept-nothing (need.End e) a = refl
+-- a call that is lent nothing, and whose states are all held by their blocks
+module _ (c : OnBlock) (held : (s : c .machine .State) → c .held (c .image s) ≡ some s) (e : Entry) (step : (b r : List ℕ) (a : ℕ) → e .step b r a ≡ stepLeft c [] b [] a) where
+  same : c .machine .State → c .machine .State
+  same s = s
 
--- a machine that reads no bytes: what its step leaves, by whether it has ended
-module _ (m : Machine) (image : m .State → List ℕ) where
-  abbrev stepLeft : m .State → ℕ → Left
-  stepLeft s a = left (stepNext m [] s a) (image (stepState m s a)) []
-
-  taken-left : (s : m .State) (r : List ℕ) (a : ℕ) → length r ≡ 0 → isEnd (m .need s) ≡ false
-      → stepLeft s a ≡ left (filled [] (m .need (m .move s a))) (image (m .move s a)) (kept (m .need s) a r)
-  taken-left s r a z e = rw (e, nothing-read r z, ← kept-nothing (m .need s) a)
-
-  ended-left : (s : m .State) (r : List ℕ) (a : ℕ) → length r ≡ 0 → isEnd (m .need s) ≡ true → stepLeft s a ≡ refusedWith InvalidState (image s) r
-  ended-left s r a z e = rw (e, nothing-read r z)
+  lends-nothing : Carries (c .machine) [] 0 e (c .image) Any
+  unfolding same
+  lends-nothing =
+      record {
+        stays = λ s a g. tt;
+        taken = λ s r a g z k. step (c .image s) r a ∙ step-taken {m = c .machine} c same Any (λ s. refl) (λ s a. refl) (λ s _. held s) [] s [] a tt k ∙ ap (λ (x : List ℕ). left (filled [] (c .machine .need (c .machine .move s a))) (c .image (c .machine .move s a)) (kept (c .machine .need s) a x)) (sym-nothing r z);
+        ended = λ s r a g z k. step (c .image s) r a ∙ step-ended {m = c .machine} c same Any (λ s. refl) (λ s a. refl) (λ s _. held s) [] s [] a tt k ∙ ap (λ (x : List ℕ). refusedWith InvalidState (c .image s) x) (sym-nothing r z);
+      }
+    where
+      sym-nothing : (r : List ℕ) → length r ≡ 0 → [] ≡ r
+      sym-nothing r z = sym (nothing-read r z)
 
 -- ---- init
 
@@ -58,17 +54,9 @@ initImage s = bytesOf (initFields s)
 abbrev pub initEntry : ℕ → ℕ → ℕ → ℕ → Entry
 initEntry chip input frequency duty = record { begin = λ b r. init.initBegin b chip input frequency duty; step = λ b r a. init.initStep b a }
 
-init-on-image : (s : State) (a : ℕ) → init.initStep (initImage s) a ≡ stepLeft timing.initMachine initImage s a
-unfolding init.initStep timing.step
-init-on-image s a = ap (λ (f : InitFound). init.heldLeft f (initImage s) a) (init-held s)
-
 pub init-carries : (chip input frequency duty : ℕ) → Carries timing.initMachine [] 0 (initEntry chip input frequency duty) initImage Any
-init-carries chip input frequency duty =
-    record {
-      stays = λ s a g. tt;
-      taken = λ s r a g e k. init-on-image s a ∙ taken-left timing.initMachine initImage s r a e k;
-      ended = λ s r a g e k. init-on-image s a ∙ ended-left timing.initMachine initImage s r a e k;
-    }
+unfolding init.initStep
+init-carries chip input frequency duty = lends-nothing initCall.initOn (λ s. ap initCall.stateIn (init-held s)) (initEntry chip input frequency duty) (λ b r a. refl)
 
 -- ---- init_slave
 
@@ -79,14 +67,6 @@ abbrev pub initSlaveEntry : ℕ → ℕ → ℕ → ℕ → ℕ → ℕ → Entr
 initSlaveEntry ten address has second general stretching =
     record { begin = λ b r. initSlave.initSlaveBegin b ten address has second general stretching; step = λ b r a. initSlave.initSlaveStep b a }
 
-init-slave-on-image : (s : InitState) (a : ℕ) → initSlave.initSlaveStep (initSlaveImage s) a ≡ stepLeft slave.initMachine initSlaveImage s a
-unfolding initSlave.initSlaveStep slave.step
-init-slave-on-image s a = ap (λ (f : InitSlaveFound). initSlave.heldLeft f (initSlaveImage s) a) (init-slave-held s)
-
 pub init-slave-carries : (ten address has second general stretching : ℕ) → Carries slave.initMachine [] 0 (initSlaveEntry ten address has second general stretching) initSlaveImage Any
-init-slave-carries ten address has second general stretching =
-    record {
-      stays = λ s a g. tt;
-      taken = λ s r a g e k. init-slave-on-image s a ∙ taken-left slave.initMachine initSlaveImage s r a e k;
-      ended = λ s r a g e k. init-slave-on-image s a ∙ ended-left slave.initMachine initSlaveImage s r a e k;
-    }
+unfolding initSlave.initSlaveStep
+init-slave-carries ten address has second general stretching = lends-nothing initSlaveCall.initSlaveOn (λ s. ap initSlaveCall.stateIn (init-slave-held s)) (initSlaveEntry ten address has second general stretching) (λ b r a. refl)

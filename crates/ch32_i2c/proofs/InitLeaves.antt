@@ -1,87 +1,40 @@
--- What begin and step of `init` leave.
+-- What begin and step of `init` and `init_slave` leave.
 -- Assumes nothing.
-use mathlib.Core.Path.{_≡_, ap, sym, _∙_}
-use mathlib.Core.Bool.{true, false, _||_}
+use mathlib.Core.Path.{_≡_, refl}
+use mathlib.Core.Bool.{Bool, _||_}
 use mathlib.Core.List.{List, []}
 use Prim.Native.Nat.{ℕ}
-use native.Mathlib.Omega.{arith}
 use lib.Dec.{ltb}
-use lib.ListN.{length}
-use Rattle.access.specs.declared.ending.Error.{Error}
-use Rattle.access.specs.declared.ending.Error.the-variants.{InvalidState, InvalidArgument}
-use Rattle.access.specs.declared.next.Next.the-variants as next
-use Rattle.access.specs.Endings.{failed}
-use Rattle.access.specs.Numbers.{nextNumber, HoldsWords}
-use Rattle.block.specs.declared.fields.Fields.{Fields}
-use Rattle.block.specs.Bytes32.{blockSize, fieldsOf, bytesOf}
-use Rattle.ch32_i2c.specs.Left.{left, refusedWith, Leaves}
-use Rattle.ch32_i2c.proofs.LeavesLaws.{left-leaves, refused-leaves, short, whole, then, else, found-whole}
 use Rattle.registers.specs.declared.chip.Chip.{Chip}
-use Rattle.timing.specs.declared.settings.Duty.{Duty}
-use Rattle.timing.specs.declared.init.State.{State}
-use Rattle.timing.specs.declared.init.Stepped.{Stepped}
-use Rattle.timing.specs.declared.init.Begun.{Begun}
-use Rattle.timing.specs.declared.init.Begun.the-variants as begun
-use Rattle.timing.specs.Machine.{begin, step}
-use Rattle.images.specs.declared.init_image.InitFound.{InitFound}
-use Rattle.images.specs.declared.init_image.InitFound.the-variants as found
+use Rattle.access.specs.declared.need.Need.{Need}
 use Rattle.images.specs.Numbers.{chipOf}
-use Rattle.images.specs.InitImage.{initFields, initIn}
-use Rattle.ch32_i2c.specs.Init.{dutyOf, begunLeft, initBegin, initHeld, heldLeft, initStep}
+use Rattle.timing.specs.declared.settings.Duty.{Duty}
+use Rattle.slave.specs.declared.config.SlaveConfig.{SlaveConfig}
+use Rattle.calls.specs.OnBlock.{stepOn, Does}
+use Rattle.calls.specs.Init as initCall
+use Rattle.calls.specs.InitSlave as initSlaveCall
+use Rattle.ch32_i2c.specs.Left.{Leaves}
+use Rattle.ch32_i2c.specs.Init.{dutyOf, initBegin, initStep}
+use Rattle.ch32_i2c.specs.InitSlave.{configOf, unknownFlags, initSlaveBegin, initSlaveStep}
+use Rattle.ch32_i2c.proofs.LeavesLaws.{Numbers, begin-leaves, unread-leaves}
 
--- ---- begin
-
-module _ (b : List ℕ) (chip input frequency duty : ℕ) (n : ℕ) where
-  pub begin-short : (length b ≡ blockSize → ⊥) → n ≡ nextNumber (next.End (failed InvalidState)) → Leaves (initBegin b chip input frequency duty) n b []
+module _ (b : List ℕ) (n : Need) (after : List ℕ) (k : ℕ) where
+  pub init-begun : (chip input frequency duty : ℕ) (u : Bool) (c : Chip) (d : Duty) → u ≡ (ltb 3 chip || ltb 1 duty) → c ≡ chipOf chip → d ≡ dutyOf duty → Does (initCall.initBegin u c input frequency d b) n after → Numbers [] k n
+      → Leaves (initBegin b chip input frequency duty) k after []
   unfolding initBegin
-  begin-short e k = refused-leaves _ InvalidState n b [] k (short b _ _ e)
+  init-begun chip input frequency duty u c d eu ec ed does q =
+      begin-leaves [] k after (initCall.initBegin (ltb 3 chip || ltb 1 duty) (chipOf chip) input frequency (dutyOf duty) b) [] n (rw (eu, ec, ed) at does) q
 
-  module _ (size : length b ≡ blockSize) where
-    pub begin-unknown : ltb 3 chip || ltb 1 duty ≡ true → n ≡ nextNumber (next.End (failed InvalidArgument)) → Leaves (initBegin b chip input frequency duty) n b []
-    unfolding initBegin
-    begin-unknown e k = refused-leaves _ InvalidArgument n b [] k (then b (ltb 3 chip || ltb 1 duty) _ _ _ size e)
-
-    pub begin-accepted : ltb 3 chip || ltb 1 duty ≡ false → (s : Stepped) → begin (chipOf chip) input frequency (dutyOf duty) ≡ begun.Accepted s → n ≡ nextNumber (s .next) → HoldsWords (s .next) → (b′ : List ℕ)
-        → b′ ≡ bytesOf (initFields (s .state)) → Leaves (initBegin b chip input frequency duty) n b′ []
-    unfolding initBegin
-    begin-accepted e s q k w b′ eb =
-        left-leaves _ (s .next) n b′ (bytesOf (initFields (s .state))) [] k w eb (ap (λ (g : Begun). begunLeft g b) (sym q) ∙ else b (ltb 3 chip || ltb 1 duty) (refusedWith InvalidArgument b []) (begunLeft (begin (chipOf chip) input frequency (dutyOf duty)) b) (refusedWith InvalidState b []) size e)
-
-    pub begin-refused : ltb 3 chip || ltb 1 duty ≡ false → (f : Error) → begin (chipOf chip) input frequency (dutyOf duty) ≡ begun.Refused f → n ≡ nextNumber (next.End (failed f)) → Leaves (initBegin b chip input frequency duty) n b []
-    unfolding initBegin
-    begin-refused e f q k =
-        refused-leaves _ f n b [] k (ap (λ (g : Begun). begunLeft g b) (sym q) ∙ else b (ltb 3 chip || ltb 1 duty) (refusedWith InvalidArgument b []) (begunLeft (begin (chipOf chip) input frequency (dutyOf duty)) b) (refusedWith InvalidState b []) size e)
-
--- ---- what a block holds
-
-module _ (b : List ℕ) where
-  pub held-short : (length b ≡ blockSize → ⊥) → found.Nothing ≡ initHeld b
-  unfolding initHeld
-  held-short e = short b _ _ e
-
-  pub held-found : length b ≡ blockSize → (f : Fields) → f ≡ fieldsOf b → (g : InitFound) → g ≡ initIn f → g ≡ initHeld b
-  unfolding initHeld
-  held-found size f ef g eg = eg ∙ ap initIn ef ∙ whole b (initIn (fieldsOf b)) found.Nothing size
-
-  pub held-size : (s : State) → found.At s ≡ initHeld b → length b ≡ blockSize
-  unfolding initHeld
-  held-size s e = found-whole b (initIn (fieldsOf b)) found.Nothing (found.At s) (λ k. let z : _≡_ {A = ℕ} 0 1 = cc in omega arith) (sym e)
-
--- ---- step
-
-module _ (b : List ℕ) (a : ℕ) (n : ℕ) where
-  pub step-nothing : found.Nothing ≡ initHeld b → n ≡ nextNumber (next.End (failed InvalidState)) → Leaves (initStep b a) n b []
+  pub init-stepped : (a : ℕ) → Does (stepOn initCall.initOn b a) n after → Numbers [] k n → Leaves (initStep b a) k after []
   unfolding initStep
-  step-nothing e k = refused-leaves _ InvalidState n b [] k (ap (λ (f : InitFound). heldLeft f b a) e)
+  init-stepped a d q = unread-leaves [] k after initCall.initOn b a n d q
 
-  pub step-held : (s : State) → found.At s ≡ initHeld b → (out : Stepped) → out ≡ step s a → n ≡ nextNumber (out .next) → HoldsWords (out .next) → (b′ : List ℕ)
-      → b′ ≡ bytesOf (initFields (out .state)) → Leaves (initStep b a) n b′ []
-  unfolding initStep
-  step-held s e out eo k w b′ eb =
-      left-leaves _ (out .next) n b′ (bytesOf (initFields (out .state))) [] k w eb
-      (ap (λ (o : Stepped). left (o .next) (bytesOf (initFields (o .state))) []) eo ∙ ap (λ (f : InitFound). heldLeft f b a) e)
+  pub init-slave-begun : (ten address has second general stretching : ℕ) (u : Bool) (c : SlaveConfig) → u ≡ unknownFlags ten has general stretching → c ≡ configOf ten address has second general stretching
+      → Does (initSlaveCall.initSlaveBegin u c b) n after → Numbers [] k n → Leaves (initSlaveBegin b ten address has second general stretching) k after []
+  unfolding initSlaveBegin
+  init-slave-begun ten address has second general stretching u c eu ec does q =
+      begin-leaves [] k after (initSlaveCall.initSlaveBegin (unknownFlags ten has general stretching) (configOf ten address has second general stretching) b) [] n (rw (eu, ec) at does) q
 
--- ---- the chip and the duty that C's numbers mean
-
-pub set-up : (chip input frequency duty : ℕ) (k : Chip) (d : Duty) (g : Begun) → k ≡ chipOf chip → d ≡ dutyOf duty → g ≡ begin k input frequency d → g ≡ begin (chipOf chip) input frequency (dutyOf duty)
-set-up chip input frequency duty k d g ek ed q = q ∙ ap (λ (k : Chip). begin k input frequency d) ek ∙ ap (λ (d : Duty). begin (chipOf chip) input frequency d) ed
+  pub init-slave-stepped : (a : ℕ) → Does (stepOn initSlaveCall.initSlaveOn b a) n after → Numbers [] k n → Leaves (initSlaveStep b a) k after []
+  unfolding initSlaveStep
+  init-slave-stepped a d q = unread-leaves [] k after initSlaveCall.initSlaveOn b a n d q

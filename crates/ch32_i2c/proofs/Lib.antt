@@ -1,10 +1,6 @@
 pub mod LeavesLaws
+pub mod TransferLeaves
 pub mod InitLeaves
-pub mod MasterLeaves
-pub mod CallLeaves
-pub mod InitSlaveLeaves
-pub mod SlaveLeaves
-pub mod ResponseLeaves
 pub mod Carried
 pub mod Recorded
 pub mod MetEnds
@@ -16,6 +12,7 @@ pub mod ResponseCarried
 pub mod ResponseMet
 pub mod CallsRun
 pub mod Stops
+pub mod Refuses
 pub mod Demands
 pub mod Edges
 pub mod Examples

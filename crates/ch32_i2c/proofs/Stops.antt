@@ -1,28 +1,19 @@
 -- A step that is not taken is refused, and leaves every lent byte as it was.
 -- Assumes nothing.
-use mathlib.Core.Path.{_≡_, refl, ap, _∙_}
-use mathlib.Core.Bool.{Bool, true, false, cond}
+use mathlib.Core.Path.{_≡_, refl, ap, sym, _∙_}
+use mathlib.Core.Bool.{Bool, true, false, cond, not, _&&_}
 use mathlib.Core.List.{List, []}
+use mathlib.Core.Option.{some, none}
 use Prim.Native.Nat.{ℕ}
-use native.Mathlib.Omega.{arith}
-use lib.Dec.{eqb}
 use lib.ListN.{length}
 use borrow.Author.Tests.{not-false}
 use Rattle.access.specs.declared.ending.Error.the-variants.{InvalidState}
-use Rattle.access.specs.Machine.{isEnd}
-use Rattle.block.specs.declared.fields.Fields.{Fields}
-use Rattle.block.specs.Bytes32.{blockSize, fieldsOf, bytesOf, Bytes}
-use Rattle.block.proofs.Codec.{bytes-back}
-use Rattle.timing.specs.declared.init.State as timing
-use Rattle.timing.specs.Machine as initMachine
+use Rattle.access.specs.Machine.{kept, isEnd}
 use Rattle.master.specs.declared.state.State as master
 use Rattle.master.specs.Calls.{lentWith}
 use Rattle.master.specs.Steps as masterSteps
-use Rattle.slave.specs.declared.init.InitState.{InitState}
 use Rattle.slave.specs.declared.state.State as slave
-use Rattle.slave.specs.Init as initSlaveMachine
 use Rattle.slave.specs.Steps as slaveSteps
-use Rattle.slave_driver.specs.Lent as slaveLent
 use Rattle.images.specs.declared.init_image.InitFound.{InitFound}
 use Rattle.images.specs.declared.init_image.InitFound.the-variants as initFound
 use Rattle.images.specs.declared.master_image.MasterFound.{MasterFound}
@@ -31,87 +22,75 @@ use Rattle.images.specs.declared.init_slave_image.InitSlaveFound.{InitSlaveFoun
 use Rattle.images.specs.declared.init_slave_image.InitSlaveFound.the-variants as initSlaveFound
 use Rattle.images.specs.declared.slave_image.SlaveFound.{SlaveFound}
 use Rattle.images.specs.declared.slave_image.SlaveFound.the-variants as slaveFound
-use Rattle.images.specs.InitImage.{initFields, initIn}
-use Rattle.images.specs.MasterImage.{masterFields, masterIn}
-use Rattle.images.specs.InitSlaveImage.{initSlaveFields, initSlaveIn}
-use Rattle.images.specs.SlaveImage.{slaveFields, slaveIn}
-use Rattle.images.proofs.InitImageLaws.{init-image}
-use Rattle.images.proofs.MasterImageLaws.{master-image}
-use Rattle.images.proofs.InitSlaveImageLaws.{init-slave-image}
-use Rattle.images.proofs.SlaveImageLaws.{slave-image}
-use Rattle.ch32_i2c.specs.Left.{refusedWith}
-use Rattle.ch32_i2c.specs.Init as init
-use Rattle.ch32_i2c.specs.Transfer as transfer
-use Rattle.ch32_i2c.specs.InitSlave as initSlave
-use Rattle.ch32_i2c.specs.Response as response
+use Rattle.calls.specs.OnBlock.{OnBlock, owedBy, owedIn, takes, stepOn}
+use Rattle.calls.specs.Init as init
+use Rattle.calls.specs.Transfer as transfer
+use Rattle.calls.specs.InitSlave as initSlave
+use Rattle.calls.specs.Response as response
+use Rattle.calls.proofs.KeptLaws.{end-keeps}
+use Rattle.ch32_i2c.specs.Left.{Left, refusedWith, stepLeft}
+use Rattle.slave.specs.declared.state.Kind.{Kind}
+use Rattle.slave.specs.Calls.{SlaveLent, sizeOf}
+use Rattle.images.specs.SlaveImage.{kindEntry}
+use Rattle.ch32_i2c.specs.Init.{initStep}
+use Rattle.ch32_i2c.specs.Transfer.{masterStep}
+use Rattle.ch32_i2c.specs.InitSlave.{initSlaveStep}
+use Rattle.ch32_i2c.proofs.HeldLaws.{slave-kind}
 use Rattle.ch32_i2c.specs.Demands.{takesInit, takesTransfer, takesInitSlave, takesResponse}
-use Rattle.ch32_i2c.proofs.LeavesLaws.{found-whole}
 
--- what is found behind a test is found
-inner : {A : Type 0} (t : Bool) (x nothing found : A) → (nothing ≡ found → ⊥) → cond t x nothing ≡ found → x ≡ found
-inner true x nothing found other e = e
-inner false x nothing found other e = absurd (other e)
+-- ---- a call on a block takes a step by its own test
 
--- the bytes of a block whose numbers are a state's
-image-of : (b : List ℕ) (f : Fields) → length b ≡ blockSize → Bytes b → f ≡ fieldsOf b → bytesOf f ≡ b
-image-of b f size bytes e = ap bytesOf e ∙ bytes-back b size bytes
+pub stops : (c : OnBlock) (bytes b r : List ℕ) (a : ℕ) → takes c b ≡ false → stepLeft c bytes b r a ≡ refusedWith InvalidState b r
+unfolding stepOn
+stops c bytes b r a q = rw q (ap (λ (x : List ℕ). refusedWith InvalidState b x) (end-keeps (owedIn c b) a r (not-false (isEnd (owedIn c b)) q)))
 
-init-block : (b : List ℕ) (s : timing.State) → Bytes b → init.initHeld b ≡ initFound.At s → bytesOf (initFields s) ≡ b
-unfolding init.initHeld
-init-block b s bytes e =
-    image-of b (initFields s) (found-whole b (initIn (fieldsOf b)) initFound.Nothing (initFound.At s) (λ k. let z : _≡_ {A = ℕ} 0 1 = cc in omega arith) e) bytes (init-image (fieldsOf b) s (inner (eqb (length b) blockSize) (initIn (fieldsOf b)) initFound.Nothing (initFound.At s) (λ k. let z : _≡_ {A = ℕ} 0 1 = cc in omega arith) e))
+-- ---- and that test is the demands'
 
-master-block : (entry : ℕ) (b : List ℕ) (s : master.State) → Bytes b → transfer.masterHeld entry b ≡ masterFound.At s → bytesOf (masterFields s) ≡ b
-unfolding transfer.masterHeld
-master-block entry b s bytes e =
-    image-of b (masterFields s) (found-whole b (cond (eqb (fieldsOf b .entry) entry) (masterIn (fieldsOf b)) masterFound.Nothing) masterFound.Nothing (masterFound.At s) (λ k. let z : _≡_ {A = ℕ} 0 1 = cc in omega arith) e) bytes (master-image (fieldsOf b) s (inner (eqb (fieldsOf b .entry) entry) (masterIn (fieldsOf b)) masterFound.Nothing (masterFound.At s) (λ k. let z : _≡_ {A = ℕ} 0 1 = cc in omega arith) (inner (eqb (length b) blockSize) (cond (eqb (fieldsOf b .entry) entry) (masterIn (fieldsOf b)) masterFound.Nothing) masterFound.Nothing (masterFound.At s) (λ k. let z : _≡_ {A = ℕ} 0 1 = cc in omega arith) e)))
+pub init-takes : (f : InitFound) → takesInit f ≡ not (isEnd (owedBy init.initOn (init.stateIn f)))
+init-takes (initFound.At s) = refl
+init-takes initFound.Nothing = refl
 
-init-slave-block : (b : List ℕ) (s : InitState) → Bytes b → initSlave.initSlaveHeld b ≡ initSlaveFound.At s → bytesOf (initSlaveFields s) ≡ b
-unfolding initSlave.initSlaveHeld
-init-slave-block b s bytes e =
-    image-of b (initSlaveFields s) (found-whole b (initSlaveIn (fieldsOf b)) initSlaveFound.Nothing (initSlaveFound.At s) (λ k. let z : _≡_ {A = ℕ} 0 1 = cc in omega arith) e) bytes (init-slave-image (fieldsOf b) s (inner (eqb (length b) blockSize) (initSlaveIn (fieldsOf b)) initSlaveFound.Nothing (initSlaveFound.At s) (λ k. let z : _≡_ {A = ℕ} 0 1 = cc in omega arith) e))
+pub init-slave-takes : (f : InitSlaveFound) → takesInitSlave f ≡ not (isEnd (owedBy initSlave.initSlaveOn (initSlave.stateIn f)))
+init-slave-takes (initSlaveFound.At s) = refl
+init-slave-takes initSlaveFound.Nothing = refl
 
-slave-block : (entry : ℕ) (b : List ℕ) (s : slave.State) → Bytes b → response.slaveHeld entry b ≡ slaveFound.At s → bytesOf (slaveFields s) ≡ b
-unfolding response.slaveHeld
-slave-block entry b s bytes e =
-    image-of b (slaveFields s) (found-whole b (cond (eqb (fieldsOf b .entry) entry) (slaveIn (fieldsOf b)) slaveFound.Nothing) slaveFound.Nothing (slaveFound.At s) (λ k. let z : _≡_ {A = ℕ} 0 1 = cc in omega arith) e) bytes (slave-image (fieldsOf b) s (inner (eqb (fieldsOf b .entry) entry) (slaveIn (fieldsOf b)) slaveFound.Nothing (slaveFound.At s) (λ k. let z : _≡_ {A = ℕ} 0 1 = cc in omega arith) (inner (eqb (length b) blockSize) (cond (eqb (fieldsOf b .entry) entry) (slaveIn (fieldsOf b)) slaveFound.Nothing) slaveFound.Nothing (slaveFound.At s) (λ k. let z : _≡_ {A = ℕ} 0 1 = cc in omega arith) e)))
+pub transfer-takes : (entry : ℕ) (list written : List ℕ) (room : ℕ) (f : MasterFound) → takesTransfer f (lentWith list written room) ≡ not (isEnd (owedBy (transfer.transferOn list (length written) room entry) (transfer.fitting list (length written) room f)))
+transfer-takes entry list written room masterFound.Nothing = refl
+transfer-takes entry list written room (masterFound.At s) = go (masterSteps.fitsLent s list (length written) room)
+  where
+    go : (v : Bool) → v && not (isEnd (masterSteps.needOf s)) ≡ not (isEnd (owedBy (transfer.transferOn list (length written) room entry) (cond v (some s) none)))
+    go true = refl
+    go false = refl
 
-init-stops-at : (b : List ℕ) (a : ℕ) → Bytes b → (f : InitFound) → init.initHeld b ≡ f → takesInit f ≡ false → init.heldLeft f b a ≡ refusedWith InvalidState b []
-unfolding initMachine.step
-init-stops-at b a bytes initFound.Nothing e q = refl
-init-stops-at b a bytes (initFound.At s) e q =
-    rw (not-false (isEnd (initMachine.owed s)) q) (ap (λ (y : List ℕ). refusedWith InvalidState y []) (init-block b s bytes e))
+pub response-takes : (entry size : ℕ) (s : slave.State) → slaveSteps.isOpen s size ≡ not (isEnd (owedBy (response.responseOn size entry) (response.fitting size (slaveFound.At s))))
+response-takes entry size s = go (slaveSteps.fitsLent s size)
+  where
+    go : (v : Bool) → v && not (isEnd (slaveSteps.needOf s size)) ≡ not (isEnd (owedBy (response.responseOn size entry) (cond v (some s) none)))
+    go true = refl
+    go false = refl
 
-pub init-stops : (b : List ℕ) (a : ℕ) → Bytes b → takesInit (init.initHeld b) ≡ false → init.initStep b a ≡ refusedWith InvalidState b []
-unfolding init.initStep
-init-stops b a bytes q = init-stops-at b a bytes (init.initHeld b) refl q
+-- ---- so it stops where they say
 
-init-slave-stops-at : (b : List ℕ) (a : ℕ) → Bytes b → (f : InitSlaveFound) → initSlave.initSlaveHeld b ≡ f → takesInitSlave f ≡ false → initSlave.heldLeft f b a ≡ refusedWith InvalidState b []
-unfolding initSlaveMachine.step
-init-slave-stops-at b a bytes initSlaveFound.Nothing e q = refl
-init-slave-stops-at b a bytes (initSlaveFound.At s) e q =
-    rw (not-false (isEnd (initSlaveMachine.owed s)) q) (ap (λ (y : List ℕ). refusedWith InvalidState y []) (init-slave-block b s bytes e))
+pub init-stops : (b : List ℕ) (a : ℕ) → takesInit (init.initHeld b) ≡ false → initStep b a ≡ refusedWith InvalidState b []
+unfolding initStep
+init-stops b a q = stops init.initOn [] b [] a (sym (init-takes (init.initHeld b)) ∙ q)
 
-pub init-slave-stops : (b : List ℕ) (a : ℕ) → Bytes b → takesInitSlave (initSlave.initSlaveHeld b) ≡ false → initSlave.initSlaveStep b a ≡ refusedWith InvalidState b []
-unfolding initSlave.initSlaveStep
-init-slave-stops b a bytes q = init-slave-stops-at b a bytes (initSlave.initSlaveHeld b) refl q
+pub init-slave-stops : (b : List ℕ) (a : ℕ) → takesInitSlave (initSlave.initSlaveHeld b) ≡ false → initSlaveStep b a ≡ refusedWith InvalidState b []
+unfolding initSlaveStep
+init-slave-stops b a q = stops initSlave.initSlaveOn [] b [] a (sym (init-slave-takes (initSlave.initSlaveHeld b)) ∙ q)
 
-module _ (entry : ℕ) (b list written r : List ℕ) (a : ℕ) (bytes : Bytes b) where
-  master-stops-at : (f : MasterFound) → transfer.masterHeld entry b ≡ f → takesTransfer f (lentWith list written (length r)) ≡ false → transfer.heldLeft f b list written r a ≡ refusedWith InvalidState b r
-  unfolding masterSteps.step masterSteps.stepRead
-  master-stops-at masterFound.Nothing e q = refl
-  master-stops-at (masterFound.At s) e q = rw q (ap (λ (y : List ℕ). refusedWith InvalidState y r) (master-block entry b s bytes e))
+pub master-stops : (entry : ℕ) (b list written r : List ℕ) (a : ℕ) → takesTransfer (transfer.masterHeld entry b) (lentWith list written (length r)) ≡ false → masterStep entry b list written r a ≡ refusedWith InvalidState b r
+unfolding masterStep
+master-stops entry b list written r a q = stops (transfer.transferOn list (length written) (length r) entry) written b r a (sym (transfer-takes entry list written (length r) (transfer.masterHeld entry b)) ∙ q)
 
-  pub master-stops : takesTransfer (transfer.masterHeld entry b) (lentWith list written (length r)) ≡ false → transfer.masterStep entry b list written r a ≡ refusedWith InvalidState b r
-  unfolding transfer.masterStep
-  master-stops q = master-stops-at (transfer.masterHeld entry b) refl q
+-- a block of a kind's entry holds calls of that kind, and those are lent as much
+module _ (x : Kind) (b : List ℕ) (l : SlaveLent) where
+  takes-is : takesResponse (response.slaveHeld (kindEntry x) b) l ≡ takes (response.responseOn (sizeOf x l) (kindEntry x)) b
+  takes-is = go (response.slaveHeld (kindEntry x) b) refl
+    where
+      go : (f : SlaveFound) → response.slaveHeld (kindEntry x) b ≡ f → takesResponse f l ≡ not (isEnd (owedBy (response.responseOn (sizeOf x l) (kindEntry x)) (response.fitting (sizeOf x l) f)))
+      go slaveFound.Nothing e = refl
+      go (slaveFound.At s) e = ap (λ (k : Kind). slaveSteps.isOpen s (sizeOf k l)) (slave-kind x b s e) ∙ response-takes (kindEntry x) (sizeOf x l) s
 
-module _ (entry : ℕ) (b reply r : List ℕ) (a : ℕ) (bytes : Bytes b) where
-  slave-stops-at : (f : SlaveFound) → response.slaveHeld entry b ≡ f → takesResponse f (slaveLent.lentWith reply (length r)) ≡ false → response.heldLeft f b reply r a ≡ refusedWith InvalidState b r
-  unfolding slaveSteps.step slaveSteps.stepRead
-  slave-stops-at slaveFound.Nothing e q = refl
-  slave-stops-at (slaveFound.At s) e q = rw q (ap (λ (y : List ℕ). refusedWith InvalidState y r) (slave-block entry b s bytes e))
-
-  pub slave-stops : takesResponse (response.slaveHeld entry b) (slaveLent.lentWith reply (length r)) ≡ false → response.slaveStep entry b reply r a ≡ refusedWith InvalidState b r
-  unfolding response.slaveStep
-  slave-stops q = slave-stops-at (response.slaveHeld entry b) refl q
+  pub slave-stops : (bytes r : List ℕ) (a : ℕ) → takesResponse (response.slaveHeld (kindEntry x) b) l ≡ false → stepLeft (response.responseOn (sizeOf x l) (kindEntry x)) bytes b r a ≡ refusedWith InvalidState b r
+  slave-stops bytes r a q = stops (response.responseOn (sizeOf x l) (kindEntry x)) bytes b r a (sym takes-is ∙ q)

@@ -50,10 +50,14 @@ use Rattle.images.specs.Numbers.{chipOf, transactionEntry, writeReadEntry, writ
 use Rattle.images.specs.MasterImage.{frameOptionsOf}
 use Rattle.ch32_i2c.specs.Left.{refusedWith}
 use Rattle.ch32_i2c.specs.Fed.{Entry, lefts, handedOut, Makes, Seen, StruckSeen, recordOf, endIn, struckBy}
-use Rattle.ch32_i2c.specs.Init.{dutyOf, initBegin, initHeld, initStep}
-use Rattle.ch32_i2c.specs.Transfer.{callOf, masterHeld, transactionBegin, transactionStep, writeReadBegin, writeReadStep, writeBegin, writeStep, readBegin, readStep}
-use Rattle.ch32_i2c.specs.InitSlave.{configOf, unknownFlags, initSlaveBegin, initSlaveHeld, initSlaveStep}
-use Rattle.ch32_i2c.specs.Response.{slaveHeld, listenBegin, listenStep, respondToWriteBegin, respondToWriteStep, respondToReadBegin, respondToReadStep}
+use Rattle.calls.specs.Init.{initHeld}
+use Rattle.calls.specs.Transfer.{masterHeld}
+use Rattle.calls.specs.InitSlave.{initSlaveHeld}
+use Rattle.calls.specs.Response.{slaveHeld}
+use Rattle.ch32_i2c.specs.Init.{dutyOf, initBegin, initStep}
+use Rattle.ch32_i2c.specs.Transfer.{callOf, transactionBegin, transactionStep, writeReadBegin, writeReadStep, writeBegin, writeStep, readBegin, readStep}
+use Rattle.ch32_i2c.specs.InitSlave.{configOf, unknownFlags, initSlaveBegin, initSlaveStep}
+use Rattle.ch32_i2c.specs.Response.{listenBegin, listenStep, respondToWriteBegin, respondToWriteStep, respondToReadBegin, respondToReadStep}
 
 -- ---- calls
 

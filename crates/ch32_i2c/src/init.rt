@@ -2,21 +2,11 @@
 ghost use mathlib.Core.Path.{_≡_};
 ghost use mathlib.Core.Bool.{_||_};
 ghost use lib.Dec.{ltb};
-ghost use lib.ListN.{length};
-ghost use Rattle.access.specs.Numbers.{nextNumber, HoldsWords};
-ghost use Rattle.block.specs.Bytes32.{bytesOf, blockSize};
-ghost use Rattle.images.specs.InitImage.{initFields};
 ghost use Rattle.ch32_i2c.specs.Left.{LeavesBlock};
-ghost use Rattle.ch32_i2c.specs.Init.{dutyOf, initBegin, initHeld, initStep};
+ghost use Rattle.ch32_i2c.specs.Init.{dutyOf, initBegin, initStep};
 use crate::left;
-use access::Error;
-use block::bytes32;
-use images::init_image;
-use images::init_image::InitFound;
+use calls::init;
 use images::numbers;
-use timing::init;
-use timing::init::Begun;
-use timing::init::Stepped;
 use timing::settings::Duty;
 
 fn duty_of(number: u8) -> Duty
@@ -27,19 +17,6 @@ fn duty_of(number: u8) -> Duty
     } else {
         Duty::Duty16_9
     }
-}
-
-// Leaves a state in the block, and hands out what it owes.
-fn leave(block: &mut [u8], stepped: Stepped) -> u64
-    requires { ⌜ length (now block) ≡ blockSize ⌝ }
-    ensures { λ r. ⌜ r ≡ nextNumber (stepped .next) ⌝ }
-    ensures { λ _. ⌜ HoldsWords (stepped .next) ⌝ }
-    ensures { λ _. ⌜ now (block .exit) ≡ bytesOf (initFields (stepped .state)) ⌝ }
-{
-    let state = stepped.state;
-    let next = stepped.next;
-    bytes32::renew(block, init_image::init_fields(state));
-    access::next::number(next)
 }
 
 // An argument that is none of `init`'s.
@@ -59,34 +36,23 @@ pub extern "C" fn ch32_i2c_init_begin(
 ) -> u64
     ensures { λ r. ⌜ LeavesBlock (initBegin (now (block .entry)) chip input frequency duty) r (now (block .exit)) ⌝ }
 {
-    if block.len() != bytes32::BLOCK_SIZE {
-        return left::refusal(Error::InvalidState);
-    }
-    if unknown(chip, duty) {
-        return left::refusal(Error::InvalidArgument);
-    }
-    match init::begin(input, frequency, duty_of(duty), numbers::chip_of(chip)) {
-        Begun::Accepted(stepped) => leave(block, stepped),
-        Begun::Refused(error) => left::refusal(error),
-    }
-}
-
-// The state that a block holds.
-fn held(block: &[u8]) -> InitFound
-    ensures { λ r. ⌜ r ≡ initHeld (now (block .entry)) ⌝ }
-{
-    if block.len() != bytes32::BLOCK_SIZE {
-        return InitFound::Nothing;
-    }
-    init_image::init_in(bytes32::fields(block))
+    let need = init::begin(
+        block,
+        unknown(chip, duty),
+        input,
+        frequency,
+        duty_of(duty),
+        numbers::chip_of(chip),
+    );
+    let none = [0u8; 0];
+    left::number(need, &none)
 }
 
 #[no_mangle]
 pub extern "C" fn ch32_i2c_init_step(block: &mut [u8], answer: u16) -> u64
     ensures { λ r. ⌜ LeavesBlock (initStep (now (block .entry)) answer) r (now (block .exit)) ⌝ }
 {
-    match held(block) {
-        InitFound::At(state) => leave(block, init::step(state, answer)),
-        InitFound::Nothing => left::refusal(Error::InvalidState),
-    }
+    let need = init::step(block, answer);
+    let none = [0u8; 0];
+    left::number(need, &none)
 }

@@ -1,20 +1,11 @@
 // `init_slave`.
 ghost use mathlib.Core.Path.{_≡_};
-ghost use lib.ListN.{length};
-ghost use Rattle.access.specs.Numbers.{nextNumber, HoldsWords};
-ghost use Rattle.block.specs.Bytes32.{bytesOf, blockSize};
-ghost use Rattle.images.specs.InitSlaveImage.{initSlaveFields};
 ghost use Rattle.ch32_i2c.specs.Left.{LeavesBlock};
-ghost use Rattle.ch32_i2c.specs.InitSlave.{configOf, unknownFlags, initSlaveBegin, initSlaveHeld, initSlaveStep};
+ghost use Rattle.ch32_i2c.specs.InitSlave.{configOf, unknownFlags, initSlaveBegin, initSlaveStep};
 use crate::left;
-use access::Error;
-use block::bytes32;
+use calls::init_slave;
 use images::init_slave_image;
-use images::init_slave_image::InitSlaveFound;
 use slave::SlaveConfig;
-use slave::init::InitBegun;
-use slave::init::InitStepped;
-use slave_driver::init;
 
 // The configuration that C's numbers mean.
 fn config_of(ten: u8, address: u16, has: u8, second: u8, general: u8, stretching: u8) -> SlaveConfig
@@ -35,19 +26,6 @@ fn unknown_flags(ten: u8, has: u8, general: u8, stretching: u8) -> bool
     ((1 < ten) | (1 < has)) | ((1 < general) | (1 < stretching))
 }
 
-// Leaves a state in the block, and hands out what it owes.
-fn leave(block: &mut [u8], stepped: InitStepped) -> u64
-    requires { ⌜ length (now block) ≡ blockSize ⌝ }
-    ensures { λ r. ⌜ r ≡ nextNumber (stepped .next) ⌝ }
-    ensures { λ _. ⌜ HoldsWords (stepped .next) ⌝ }
-    ensures { λ _. ⌜ now (block .exit) ≡ bytesOf (initSlaveFields (stepped .state)) ⌝ }
-{
-    let state = stepped.state;
-    let next = stepped.next;
-    bytes32::renew(block, init_slave_image::init_slave_fields(state));
-    access::next::number(next)
-}
-
 #[no_mangle]
 pub extern "C" fn ch32_i2c_init_slave_begin(
     block: &mut [u8],
@@ -60,12 +38,6 @@ pub extern "C" fn ch32_i2c_init_slave_begin(
 ) -> u64
     ensures { λ r. ⌜ LeavesBlock (initSlaveBegin (now (block .entry)) «ten_bit» address «has_second» second «general_call» «clock_stretching») r (now (block .exit)) ⌝ }
 {
-    if block.len() != bytes32::BLOCK_SIZE {
-        return left::refusal(Error::InvalidState);
-    }
-    if unknown_flags(ten_bit, has_second, general_call, clock_stretching) {
-        return left::refusal(Error::InvalidArgument);
-    }
     let config = config_of(
         ten_bit,
         address,
@@ -74,28 +46,17 @@ pub extern "C" fn ch32_i2c_init_slave_begin(
         general_call,
         clock_stretching,
     );
-    match init::begin(config) {
-        InitBegun::Accepted(stepped) => leave(block, stepped),
-        InitBegun::Refused(error) => left::refusal(error),
-    }
-}
-
-// The state that a block holds.
-fn held(block: &[u8]) -> InitSlaveFound
-    ensures { λ r. ⌜ r ≡ initSlaveHeld (now (block .entry)) ⌝ }
-{
-    if block.len() != bytes32::BLOCK_SIZE {
-        return InitSlaveFound::Nothing;
-    }
-    init_slave_image::init_slave_in(bytes32::fields(block))
+    let unknown = unknown_flags(ten_bit, has_second, general_call, clock_stretching);
+    let need = init_slave::begin(block, unknown, config);
+    let none = [0u8; 0];
+    left::number(need, &none)
 }
 
 #[no_mangle]
 pub extern "C" fn ch32_i2c_init_slave_step(block: &mut [u8], answer: u16) -> u64
     ensures { λ r. ⌜ LeavesBlock (initSlaveStep (now (block .entry)) answer) r (now (block .exit)) ⌝ }
 {
-    match held(block) {
-        InitSlaveFound::At(state) => leave(block, init::step(state, answer)),
-        InitSlaveFound::Nothing => left::refusal(Error::InvalidState),
-    }
+    let need = init_slave::step(block, answer);
+    let none = [0u8; 0];
+    left::number(need, &none)
 }

@@ -1,13 +1,28 @@
-// What a refused call returns.
+// What a call on a block needs, as C sees it, and what came. Payload enters and leaves here alone.
 ghost use mathlib.Core.Path.{_≡_};
-ghost use Rattle.access.specs.Endings.{failed};
-ghost use Rattle.access.specs.Numbers.{nextNumber};
-ghost use Rattle.access.specs.declared.next.Next.the-variants as next;
-use access::Error;
-use access::Next;
+ghost use mathlib.Core.Bool.{cond};
+ghost use Prim.Native.Nat.{_%_};
+ghost use lib.ListN.{set};
+ghost use Rattle.access.specs.Machine.{filled};
+ghost use Rattle.access.specs.Numbers.{nextNumber, HoldsWords};
+use access::Need;
+use access::lent;
+use access::need;
+use access::next;
 
-pub fn refusal(error: Error) -> u64
-    ensures { λ r. ⌜ r ≡ nextNumber (next.End (failed error)) ⌝ }
+// A byte to send is put in from the bytes lent.
+pub fn number(need: Need, written: &[u8]) -> u64
+    ensures { λ r. ⌜ r ≡ nextNumber (filled (now (written .entry)) need) ⌝ }
+    ensures { λ _. ⌜ HoldsWords (filled (now (written .entry)) need) ⌝ }
 {
-    access::next::number(Next::End(access::ending::failed(error)))
+    next::number(need::fill(need, written))
+}
+
+// A byte that came is stored, if it is to be kept.
+pub fn keep(keeps: bool, place: u32, read: &mut [u8], answer: u16)
+    ensures { λ _. ⌜ now (read .exit) ≡ cond keeps (set (now (read .entry)) place (answer % 256)) (now (read .entry)) ⌝ }
+{
+    if keeps {
+        lent::put_at(read, place, (answer % 256) as u8);
+    }
 }

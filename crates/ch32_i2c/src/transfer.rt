@@ -1,30 +1,15 @@
 // Transactions, write-reads and frames.
 ghost use mathlib.Core.Path.{_≡_};
-ghost use mathlib.Core.Bool.{cond, not, _&&_};
-ghost use Prim.Native.Nat.{ℕ, _%_};
-ghost use lib.Dec.{eqb};
-ghost use lib.ListN.{length, set};
-ghost use Rattle.access.specs.declared.ending.Error.the-variants.{InvalidState};
-ghost use Rattle.access.specs.declared.need.Need.the-variants as need;
-ghost use Rattle.access.specs.Endings.{failed};
-ghost use Rattle.asked.specs.Asked.{Asks};
+ghost use lib.ListN.{length};
 ghost use Rattle.master.specs.Calls.{lentWith};
 ghost use Rattle.ch32_i2c.specs.Left.{Leaves, LeavesBlock};
 ghost use Rattle.ch32_i2c.specs.Transfer.{callOf, masterBegin, transactionBegin, transactionStep, writeReadBegin, writeReadStep, writeBegin, writeStep, readBegin, readStep};
 use crate::left;
-use access::Error;
-use access::lent;
-use block::bytes32;
+use calls::transfer;
 use images::master_image;
 use images::numbers;
 use master::Call;
 use master::Kind;
-use master_call::begin;
-use master_call::frame;
-use master_call::transaction;
-use master_call::write_read;
-use master_step::keep;
-use master_step::put;
 
 // The call that C's numbers mean.
 fn call_of(chip: u8, address: u8, kind: Kind) -> Call
@@ -48,23 +33,8 @@ fn begin(
 ) -> u64
     ensures { λ r. ⌜ Leaves (masterBegin unknown call (now (block .entry)) (lentWith (now (list .entry)) (now (written .entry)) (length (now (read .entry)))) (now (read .entry))) r (now (block .exit)) (now (read .exit)) ⌝ }
 {
-    if block.len() != bytes32::BLOCK_SIZE {
-        return left::refusal(Error::InvalidState);
-    }
-    if unknown {
-        return left::refusal(Error::InvalidArgument);
-    }
-    let asked = begin::begin(block, call, list, written.len(), read.len());
-    asked::fill(asked, written)
-}
-
-// The answer to the access that was handed out last, if that was a byte to keep and the step took it. Nothing else stores payload.
-fn keep(kept: bool, place: u16, asked: u64, read: &mut [u8], answer: u16)
-    ensures { λ _. ⌜ ((n : ℕ) → Asks n (need.End (failed InvalidState)) → now (read .exit) ≡ cond (kept && not (eqb asked n)) (set (now (read .entry)) place (answer % 256)) (now (read .entry))) ⌝ }
-{
-    if kept & (asked != asked::refused()) {
-        lent::put_at(read, place as u32, (answer % 256) as u8);
-    }
+    let need = transfer::begin(block, unknown, call, list, written.len(), read.len());
+    left::number(need, written)
 }
 
 #[no_mangle]
@@ -98,14 +68,10 @@ pub extern "C" fn ch32_i2c_transaction_step(
 ) -> u64
     ensures { λ r. ⌜ Leaves (transactionStep (now (block .entry)) (now (list .entry)) (now (written .entry)) (now (read .entry)) answer) r (now (block .exit)) (now (read .exit)) ⌝ }
 {
-    if block.len() != bytes32::BLOCK_SIZE {
-        return left::refusal(Error::InvalidState);
-    }
-    let kept = keep::is_kept(block[put::GROUP], block[put::PHASE]);
-    let place = put::word_at(block, put::PLACE);
-    let asked = transaction::transaction_step(block, list, written.len(), read.len(), answer);
-    keep(kept, place, asked, read, answer);
-    asked::fill(asked, written)
+    let stepped = transfer::transaction_step(block, list, written.len(), read.len(), answer);
+    let need = stepped.need;
+    left::keep(stepped.keeps, stepped.place, read, answer);
+    left::number(need, written)
 }
 
 #[no_mangle]
@@ -138,14 +104,10 @@ pub extern "C" fn ch32_i2c_write_read_step(
 ) -> u64
     ensures { λ r. ⌜ Leaves (writeReadStep (now (block .entry)) (now (written .entry)) (now (read .entry)) answer) r (now (block .exit)) (now (read .exit)) ⌝ }
 {
-    if block.len() != bytes32::BLOCK_SIZE {
-        return left::refusal(Error::InvalidState);
-    }
-    let kept = keep::is_kept(block[put::GROUP], block[put::PHASE]);
-    let place = put::word_at(block, put::PLACE);
-    let asked = write_read::write_read_step(block, written.len(), read.len(), answer);
-    keep(kept, place, asked, read, answer);
-    asked::fill(asked, written)
+    let stepped = transfer::write_read_step(block, written.len(), read.len(), answer);
+    let need = stepped.need;
+    left::keep(stepped.keeps, stepped.place, read, answer);
+    left::number(need, written)
 }
 
 #[no_mangle]
@@ -178,11 +140,8 @@ pub extern "C" fn ch32_i2c_write_begin(
 pub extern "C" fn ch32_i2c_write_step(block: &mut [u8], written: &[u8], answer: u16) -> u64
     ensures { λ r. ⌜ LeavesBlock (writeStep (now (block .entry)) (now (written .entry)) answer) r (now (block .exit)) ⌝ }
 {
-    if block.len() != bytes32::BLOCK_SIZE {
-        return left::refusal(Error::InvalidState);
-    }
-    let asked = frame::write_step(block, written.len(), answer);
-    asked::fill(asked, written)
+    let need = transfer::write_step(block, written.len(), answer);
+    left::number(need, written)
 }
 
 #[no_mangle]
@@ -214,13 +173,9 @@ pub extern "C" fn ch32_i2c_read_begin(
 pub extern "C" fn ch32_i2c_read_step(block: &mut [u8], read: &mut [u8], answer: u16) -> u64
     ensures { λ r. ⌜ Leaves (readStep (now (block .entry)) (now (read .entry)) answer) r (now (block .exit)) (now (read .exit)) ⌝ }
 {
-    if block.len() != bytes32::BLOCK_SIZE {
-        return left::refusal(Error::InvalidState);
-    }
-    let kept = keep::is_kept(block[put::GROUP], block[put::PHASE]);
-    let place = put::word_at(block, put::PLACE);
-    let asked = frame::read_step(block, read.len(), answer);
-    keep(kept, place, asked, read, answer);
+    let stepped = transfer::read_step(block, read.len(), answer);
+    let need = stepped.need;
+    left::keep(stepped.keeps, stepped.place, read, answer);
     let none = [0u8; 0];
-    asked::fill(asked, &none)
+    left::number(need, &none)
 }

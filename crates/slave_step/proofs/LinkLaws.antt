@@ -51,7 +51,7 @@ pub record RefusedLeft (n : ℕ) (before after : List ℕ) : Type 0 where
 pub held-block : (entry : ℕ) (b : List ℕ) (s : State) → length b ≡ 32 → Bytes b → heldIn entry b ≡ At s → b ≡ bytesOf (slaveFields s)
 held-block entry b s n bytes e = sym (bytes-back b n bytes) ∙ ap bytesOf (sym (held-image entry b s e))
 
-kind-back : (k : Kind) → kindOf (kindEntry k) ≡ k
+pub kind-back : (k : Kind) → kindOf (kindEntry k) ≡ k
 kind-back Listen = refl
 kind-back RespondToWrite = refl
 kind-back RespondToRead = refl

@@ -1,7 +1,8 @@
 -- `ch32_i2c::response::ch32_i2c_respond_to_read_begin` meets its contract.
 -- Assumes nothing.
-use Rattle.ch32_i2c.proofs.LeavesLaws.{block-leaves}
 use borrow.Author.Needs.{needs}
+use mathlib.Core.List.{[]}
+use Rattle.ch32_i2c.proofs.LeavesLaws.{block-leaves, begin-leaves}
 use Rattle.ch32_i2c.proofs.response.ch32_i2c_respond_to_read_begin.Statement.{statement}
 use Rattle.ch32_i2c.proofs.response.ch32_i2c_respond_to_read_begin.Tie as tie
 
@@ -9,7 +10,7 @@ pub ch32-i2c-respond-to-read-begin-spec : {M : Type 1} → statement M
 ch32-i2c-respond-to-read-begin-spec =
     tie.close
     (tie.spec
-    (λ c. search needs)
+    (λ c κs. search needs)
     (λ c κs. search needs)
     (λ c. search needs)
-    (λ c. block-leaves (c .before .before .before .begin .ensures)))
+    (λ c. block-leaves (begin-leaves _ _ _ _ [] _ (c .before .before .before .begin .ensures) (record { number = c .number .ensures .0; words = c .number .ensures .1 }))))

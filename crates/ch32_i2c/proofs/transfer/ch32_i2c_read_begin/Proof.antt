@@ -1,6 +1,6 @@
 -- `ch32_i2c::transfer::ch32_i2c_read_begin` meets its contract.
 -- Assumes nothing.
-use Rattle.ch32_i2c.proofs.MasterLeaves.{called, read-call}
+use Rattle.ch32_i2c.proofs.TransferLeaves.{called, read-call}
 use borrow.Author.Needs.{needs}
 use Rattle.ch32_i2c.proofs.transfer.ch32_i2c_read_begin.Statement.{statement}
 use Rattle.ch32_i2c.proofs.transfer.ch32_i2c_read_begin.Tie as tie

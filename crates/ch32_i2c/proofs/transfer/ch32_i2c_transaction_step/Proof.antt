@@ -1,30 +1,17 @@
 -- `ch32_i2c::transfer::ch32_i2c_transaction_step` meets its contract.
 -- Assumes nothing.
 use borrow.Author.Needs.{needs}
-use Rattle.ch32_i2c.proofs.MasterLeaves.{held-short, step-nothing}
-use Rattle.ch32_i2c.proofs.CallLeaves.{call-leaves}
+use Rattle.ch32_i2c.proofs.TransferLeaves.{stepped}
 use Rattle.ch32_i2c.proofs.transfer.ch32_i2c_transaction_step.Statement.{statement}
 use Rattle.ch32_i2c.proofs.transfer.ch32_i2c_transaction_step.Tie as tie
-
-returns : tie.Need-returns
-returns c = step-nothing 2 _ _ _ _ _ _ (held-short 2 _ (c .before .if1 .taken)) (c .refusal .ensures)
-
-returns-2 : tie.Need-returns-2
-returns-2 c = call-leaves 2 (c .before .before .before .before .before .before .before .before .before .before .before .before .before .before .before .before .before .before .before .args .block .now) _ _ _ _ (c .before .before .before .before .before .before .before .before .before .before .before .before .before .before .if1 .left) (λ i. c .before .before .before .before .before .before .before .before .before .before .before .before .before .before .before .before .before .before .slice-known .given i .fits) _ _ _ _ _ _ (λ g what d. c .before .before .before .before .before .before .before .before .before .before .before .is-kept .ensures g what d) (c .before .before .before .before .before .before .before .before .before .word-at .ensures) (c .before .before .before .keep .ensures) (c .before .before .before .before .before .before .before .transaction-step .ensures) (c .fill .ensures)
 
 pub ch32-i2c-transaction-step-spec : {M : Type 1} → statement M
 ch32-i2c-transaction-step-spec =
     tie.close
     (tie.spec
     (λ c κs. search needs)
-    returns
-    (λ c. search needs)
-    (λ c. search needs)
-    (λ c κs. search needs)
-    (λ c κs. search needs)
-    (λ c κs. search needs)
     (λ c κs. search needs)
     (λ c κs. search needs)
     (λ c. search needs)
     (λ c. search needs)
-    returns-2)
+    (λ c. stepped 2 _ _ _ _ _ _ _ _ _ (c .before .before .before .before .before .before .before .transaction-step .ensures) (record { number = c .number .ensures .0; words = c .number .ensures .1 }) (c .before .before .before .keep .ensures)))

@@ -1,7 +1,7 @@
 -- `ch32_i2c::transfer::ch32_i2c_write_begin` meets its contract.
 -- Assumes nothing.
 use Rattle.ch32_i2c.proofs.LeavesLaws.{block-leaves}
-use Rattle.ch32_i2c.proofs.MasterLeaves.{called, write-call}
+use Rattle.ch32_i2c.proofs.TransferLeaves.{called, write-call}
 use borrow.Author.Needs.{needs}
 use Rattle.ch32_i2c.proofs.transfer.ch32_i2c_write_begin.Statement.{statement}
 use Rattle.ch32_i2c.proofs.transfer.ch32_i2c_write_begin.Tie as tie

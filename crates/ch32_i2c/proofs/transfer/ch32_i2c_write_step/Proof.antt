@@ -2,24 +2,15 @@
 -- Assumes nothing.
 use borrow.Author.Needs.{needs}
 use Rattle.ch32_i2c.proofs.LeavesLaws.{block-leaves}
-use Rattle.ch32_i2c.proofs.MasterLeaves.{held-short, step-nothing}
-use Rattle.ch32_i2c.proofs.CallLeaves.{unread-leaves}
+use Rattle.ch32_i2c.proofs.TransferLeaves.{unread}
 use Rattle.ch32_i2c.proofs.transfer.ch32_i2c_write_step.Statement.{statement}
 use Rattle.ch32_i2c.proofs.transfer.ch32_i2c_write_step.Tie as tie
-
-returns : tie.Need-returns
-returns c = block-leaves (step-nothing 4 _ _ _ _ _ _ (held-short 4 _ (c .before .if1 .taken)) (c .refusal .ensures))
-
-returns-2 : tie.Need-returns-2
-returns-2 c = block-leaves (unread-leaves 4 (c .before .before .before .before .before .before .before .before .args .block .now) _ _ _ (c .before .before .before .before .before .if1 .left) (λ i. c .before .before .before .before .before .before .before .slice-known .given i .fits) _ _ _ (c .before .before .before .write-step .ensures) (c .fill .ensures))
 
 pub ch32-i2c-write-step-spec : {M : Type 1} → statement M
 ch32-i2c-write-step-spec =
     tie.close
     (tie.spec
     (λ c κs. search needs)
-    returns
-    (λ c κs. search needs)
     (λ c κs. search needs)
     (λ c. search needs)
-    returns-2)
+    (λ c. block-leaves (unread 4 _ _ _ _ _ _ _ (c .before .before .before .write-step .ensures) (record { number = c .number .ensures .0; words = c .number .ensures .1 }))))
