@@ -1,3 +1,3 @@
-pub mod FillLaws
+pub mod MetLaws
 pub mod KeptLaws
 pub mod NeedLaws

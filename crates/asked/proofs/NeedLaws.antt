@@ -7,11 +7,9 @@ use Rattle.registers.specs.declared.register.Register.{Register}
 use Rattle.registers.specs.declared.register.Register.the-variants.{Ctlr1, Ctlr2, Oaddr1, Oaddr2, Datar, Star1, Star2, Ckcfgr, Rtr}
 use Rattle.registers.specs.Numbers.{registerNumber}
 use Rattle.registers.proofs.NumberLaws.{register-back, register-below}
-use Rattle.access.specs.declared.ending.Ending.{Ending}
 use Rattle.access.specs.declared.need.Need.{Need}
 use Rattle.access.specs.declared.need.Need.the-variants.{Read, Write, Clock, Send, Keep, Drop, End}
 use Rattle.access.specs.Endings.{endingError, endingValue, endingOf}
-use Rattle.access.specs.Numbers.{EndHoldsWords}
 use Rattle.access.proofs.NumberLaws.{kind-of, code-of, value-of, error-below, value-below, ending-back}
 use Rattle.asked.specs.Asked.{needNumber, needOf, NeedHoldsWords, Asks}
 

@@ -2,14 +2,12 @@
 use mathlib.Core.Path.{_≡_}
 use mathlib.Core.Bool.{Bool, true, false, cond}
 use lib.Dec.{eqb}
-use mathlib.Core.List.{List}
 use Prim.Native.Nat.{ℕ, _+_, _*_, _/_, _%_, _<_}
 use Rattle.registers.specs.Numbers.{registerNumber, registerOf}
 use Rattle.access.specs.declared.need.Need.{Need}
 use Rattle.access.specs.declared.need.Need.the-variants.{Read, Write, Clock, Send, Keep, Drop, End}
 use Rattle.access.specs.Endings.{endingNumber, endingOf}
-use Rattle.access.specs.Numbers.{nextNumber, HoldsWords, EndHoldsWords}
-use Rattle.access.specs.Machine.{filled}
+use Rattle.access.specs.Numbers.{EndHoldsWords}
 
 abbrev pub needNumber : Need → ℕ
 needNumber (Read r) = 1 + registerNumber r * 256
@@ -44,14 +42,6 @@ NeedHoldsWords (End e) = EndHoldsWords e
 pub record Asks (n : ℕ) (x : Need) : Type 0 where
   pub number : n ≡ needNumber x
   pub words : NeedHoldsWords x
-
--- C's number n for what is asked for, with these bytes lent to write
-pub record Filled (written : List ℕ) (n : ℕ) (x : Need) : Type 0 where
-  pub number : n ≡ nextNumber (filled written x)
-  pub words : HoldsWords (filled written x)
-
-abbrev pub Fills : ℕ → List ℕ → ℕ → Type 0
-Fills asked written n = (x : Need) → Asks asked x → Filled written n x
 
 -- a byte to keep
 abbrev pub isKeep : Need → Bool

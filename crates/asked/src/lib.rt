@@ -1,13 +1,12 @@
 // What is asked for next, by number: C's number (docs/USING.md), but for a byte to send or to keep, which is asked for by its place.
-// Where the payload is lent, `fill` puts the byte in.
+// `need_of` takes the number apart again.
 ghost use mathlib.Core.Path.{_≡_};
 ghost use mathlib.Core.Bool.{true};
-ghost use lib.ListN.{getD};
 ghost use Rattle.access.specs.declared.ending.Error.the-variants.{InvalidState};
 ghost use Rattle.access.specs.declared.need.Need.the-variants as need;
 ghost use Rattle.access.specs.declared.ending.Ending.{Ending};
 ghost use Rattle.access.specs.Endings.{done, returned, failed, hasFailed, endingError};
-ghost use Rattle.asked.specs.Asked.{Asks, Fills, needOf};
+ghost use Rattle.asked.specs.Asked.{Asks, needOf};
 use access::Error;
 use access::Need;
 use access::ending;
@@ -106,27 +105,6 @@ pub fn refused() -> u64
     ensures { λ r. ⌜ Asks r (need.End (failed InvalidState)) ⌝ }
 {
     15 * 256
-}
-
-// The byte at a place, and 0 past the end.
-fn byte_at(bytes: &[u8], place: usize) -> u8
-    ensures { λ r. ⌜ r ≡ getD (now (bytes .entry)) place 0 ⌝ }
-{
-    if place < bytes.len() { bytes[place] } else { 0 }
-}
-
-// What C sees: a byte to send is put in from the bytes lent, and one to keep or to drop is read.
-pub fn fill(asked: u64, written: &[u8]) -> u64
-    ensures { λ r. ⌜ Fills asked (now (written .entry)) r ⌝ }
-{
-    if asked % 256 < SEND {
-        return asked;
-    }
-    if asked % 256 == SEND {
-        let byte = byte_at(written, (asked / 65536) as usize);
-        return write(Register::Datar, byte as u16);
-    }
-    read(Register::Datar)
 }
 
 // What a number asks for.

@@ -6,7 +6,7 @@ use lib.Dec.{ltb}
 use lib.ListN.{length, getD, take}
 use Rattle.access.specs.declared.next.Next.{Next}
 use Rattle.access.specs.declared.next.Next.the-variants.{Read, Write, Clock, End}
-use Rattle.access.specs.Endings.{failed, endingError}
+use Rattle.access.specs.Endings.{endingError}
 use Rattle.access.specs.Record.{isData}
 use Rattle.ch32_i2c.specs.Left.{Left}
 use Rattle.ch32_i2c.specs.Transfer.{transactionStep}

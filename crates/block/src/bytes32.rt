@@ -4,7 +4,6 @@ ghost use Prim.Native.Nat.{_+_, _*_, _%_, _/_, _≤_};
 ghost use lib.ListN.{length};
 ghost use Rattle.block.specs.Bytes32.{wordAt, longAt, fieldsOf, bytesOf, blockSize};
 use crate::fields::Fields;
-use crate::fields::same_fields;
 
 // The length of a block, in every call.
 pub const BLOCK_SIZE: usize = 32;
@@ -117,16 +116,4 @@ pub fn put(block: &mut [u8], f: Fields)
 {
     let bytes = image(f);
     bytes::copy(&bytes, block);
-}
-
-// The same where a refused step may lead: a block that says it already is not written.
-pub fn renew(block: &mut [u8], f: Fields)
-    requires { ⌜ length (now block) ≡ blockSize ⌝ }
-    ensures { λ _. ⌜ now (block .exit) ≡ bytesOf f ⌝ }
-{
-    let said = fields(block);
-    if same_fields(said, f) {
-        return;
-    }
-    put(block, f);
 }

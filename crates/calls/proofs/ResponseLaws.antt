@@ -3,7 +3,7 @@
 use mathlib.Core.Path.{_≡_, refl, ap, sym, subst, _∙_}
 use mathlib.Core.Bool.{Bool, true, false, cond, not, _&&_}
 use mathlib.Core.List.{List}
-use mathlib.Core.Option.{Option, none, some}
+use mathlib.Core.Option.{none, some}
 use Prim.Native.Nat.{ℕ, _%_}
 use lib.Dec.{eqb, ltb}
 use lib.ListN.{length, getD, set}
@@ -26,7 +26,7 @@ use Rattle.slave.specs.declared.state.State.{State}
 use Rattle.slave.specs.Machine.{owedAt, start}
 use Rattle.slave.specs.Calls.{sizeRefusal}
 use Rattle.slave.specs.Steps.{fitsLent, needOf}
-use Rattle.asked.specs.Asked.{Asks, isKeep}
+use Rattle.asked.specs.Asked.{isKeep}
 use Rattle.asked.specs.Asked as asked
 use Rattle.asked.proofs.NeedLaws.{asks-told}
 use Rattle.slave_step.specs.Held.{heldIn, Refuses, Moves, StepsFrom}

@@ -28,11 +28,11 @@ use Rattle.master.specs.declared.state.State.{State}
 use Rattle.master.specs.Machine.{owedAt, start}
 use Rattle.master.specs.Calls.{settingOf, shapeBy, refusalBy}
 use Rattle.master.specs.Steps.{fitsLent, needOf}
-use Rattle.asked.specs.Asked.{Asks, isKeep}
+use Rattle.asked.specs.Asked.{isKeep}
 use Rattle.asked.specs.Asked as asked
 use Rattle.asked.proofs.NeedLaws.{asks-told}
-use Rattle.master_step.specs.Held.{Refuses, Moves, Steps}
-use Rattle.master_call.specs.CallStep.{heldIn, isOpen, Stepped, CallSteps}
+use Rattle.master_step.specs.Held.{Refuses}
+use Rattle.master_call.specs.CallStep.{heldIn, Stepped, CallSteps}
 use Rattle.master_call.specs.CallBegin.{Begins, CallBegins}
 use Rattle.master_call.proofs.KeptLaws.{stored-is, found-is}
 use Rattle.calls.specs.declared.stepped.Stepped as told

@@ -6,7 +6,6 @@ use Prim.Native.Nat.{ℕ}
 use lib.Dec.{eqb}
 use lib.ListN.{length}
 use Rattle.registers.specs.declared.chip.Chip.{Chip}
-use Rattle.access.specs.declared.ending.Error.the-variants.{InvalidState}
 use Rattle.block.specs.Bytes32.{blockSize, fieldsOf, bytesOf}
 use Rattle.timing.specs.declared.settings.Duty.{Duty}
 use Rattle.timing.specs.declared.settings.Timed.{Timed}

@@ -1,7 +1,7 @@
 -- What is seen of an accepted call, whichever it is: its machine's, and so layer 1's.
 -- Assumes nothing.
 use mathlib.Core.Path.{_≡_, refl, ap, sym, subst, _∙_}
-use mathlib.Core.Bool.{Bool, false, cond, not, _||_}
+use mathlib.Core.Bool.{Bool, false, not, _||_}
 use mathlib.Core.List.{List, []}
 use mathlib.Core.Option.{Option, none, some}
 use Prim.Native.Nat.{ℕ, _≤_}
@@ -22,13 +22,12 @@ use Rattle.timing.specs.declared.init.Stage as timingStage
 use Rattle.timing.specs.declared.init.Stage.the-variants as timingStages
 use Rattle.timing.specs.declared.init.State as timingState
 use Rattle.timing.specs.Rust.{timing}
-use Rattle.timing.specs.Claims as timing
 use Rattle.timing.specs.Machine as initMachine
 use Rattle.master.specs.declared.call.Kind.{Kind}
 use Rattle.master.specs.declared.call.Call as master
 use Rattle.master.specs.Machine.{master, start, owed}
 use Rattle.master.specs.Calls.{Lent, lentWith, refusal, callShown, seenAfter, shapeOf}
-use Rattle.master.specs.Steps.{begin, begunWith}
+
 use Rattle.master.proofs.CallAgrees.{passed-cause}
 use Rattle.master.proofs.AcceptedFits.{states-fit}
 use Rattle.slave.specs.declared.config.SlaveConfig.{SlaveConfig}
@@ -41,7 +40,6 @@ use Rattle.slave.specs.Init as initSlaveMachine
 use Rattle.slave.specs.Machine as slaveMachine
 use Rattle.slave.specs.Calls.{SlaveLent, sizeOf, sizeRefusal, settingOf, initShown, slaveShown}
 use Rattle.slave.specs.Calls as slaveCalls
-use Rattle.slave.specs.Steps as slaveSteps
 use Rattle.slave.proofs.CallAgrees.{accepted-shown}
 use Rattle.slave.proofs.FitsKept as slaveFits
 use Rattle.slave_driver.specs.Lent as slaveLent

@@ -1,32 +1,30 @@
 -- The three demands hold.
 -- Assumes nothing.
 use mathlib.Core.Path.{_≡_, refl, ap, sym, subst, _∙_}
-use mathlib.Core.Bool.{Bool, true, false, cond, not, _||_}
+use mathlib.Core.Bool.{true, false, not, _||_}
 use mathlib.Core.List.{List, [], map}
 use mathlib.Core.Option.{Option, none, some}
 use Prim.Native.Nat.{ℕ, _<_}
 use native.Mathlib.Omega.{arith}
-use lib.Dec.{eqb, ltb}
+use lib.Dec.{ltb}
 use lib.ListN.{length, take, length-take}
 use Rattle.access.specs.declared.ending.Ending.{Ending}
 use Rattle.access.specs.declared.ending.Error.{Error}
-use Rattle.access.specs.declared.ending.Error.the-variants.{InvalidState, InvalidArgument}
+use Rattle.access.specs.declared.ending.Error.the-variants.{InvalidState}
 use Rattle.access.specs.Endings.{returned, failed}
 use Rattle.access.specs.Record.{Shown, noMore, DifferInPayload, Same, SameStruck, EndsAlike, struck}
 use Rattle.access.specs.Machine.{shownFrom}
 use Rattle.access.proofs.NumberLaws.{number-injective}
 use Rattle.alike.specs.Like.{forgetEnd, forgetting}
 use Rattle.errors.proofs.CheckLaws.{others-stay}
-use Rattle.block.specs.Bytes32.{blockSize, Bytes}
+use Rattle.block.specs.Bytes32.{Bytes}
 use Rattle.timing.specs.declared.settings.Timed.{Timed}
 use Rattle.timing.specs.declared.settings.Timed.the-variants as timed
 use Rattle.timing.specs.Rust.{timing}
-use Rattle.timing.specs.Machine as initMachine
 use Rattle.timing.proofs.InitAgrees.{init-is-the-rust}
 use Rattle.master.specs.declared.call.Call as master
 use Rattle.master.specs.declared.call.Kind.the-variants as kind
-use Rattle.master.specs.Calls.{Lent, lentWith, refuse, refusal, callShown, seenAfter, spansBy, spansOf}
-use Rattle.master.specs.Steps as masterSteps
+use Rattle.master.specs.Calls.{Lent, lentWith, refusal, callShown, seenAfter, spansBy, spansOf}
 use Rattle.master.specs.Claims.{Comparable}
 use Rattle.master.proofs.CallAgrees.{master-is-ours}
 use Rattle.master.proofs.Joining.{runs-join}
@@ -39,18 +37,17 @@ use Rattle.slave.specs.declared.state.Kind.the-variants.{Listen, RespondToWrite
 use Rattle.slave.specs.Init as initSlaveMachine
 use Rattle.slave.specs.Calls.{SlaveLent, sizeOf, sizeRefusal, initShown, rustInit, slaveShown}
 use Rattle.slave.specs.Calls as slaveCalls
-use Rattle.slave.specs.Steps as slaveSteps
 use Rattle.slave.specs.Claims.{Any}
 use Rattle.slave.proofs.CallAgrees.{slave-is-ours}
 use Rattle.slave.proofs.OursIsTheRust as slaveIs
 use Rattle.slave.proofs.Secret.{slave-is-secret}
 use Rattle.slave_driver.specs.Lent as slaveLent
-use Rattle.images.specs.Numbers.{chipOf, transactionEntry, writeReadEntry, writeEntry, readEntry, listenEntry, respondToWriteEntry, respondToReadEntry}
+use Rattle.images.specs.Numbers.{chipOf, transactionEntry, writeReadEntry, writeEntry, readEntry}
 use Rattle.images.specs.MasterImage.{frameOptionsOf}
 use Rattle.ch32_i2c.specs.Left.{Left, refusedWith}
 use Rattle.ch32_i2c.specs.Fed.{Makes, struckBy}
 use Rattle.ch32_i2c.specs.Init as cInit
-use Rattle.ch32_i2c.specs.Transfer.{callOf, masterBegin}
+use Rattle.ch32_i2c.specs.Transfer.{callOf}
 use Rattle.ch32_i2c.specs.InitSlave as cInitSlave
 use Rattle.ch32_i2c.specs.Demands.{Call, init, transaction, writeRead, write, read, initSlave, listen, respondToWrite, respondToRead, entryOf, Reads, unknown, ownRefusal, refusalOf, Accepted, timedRefusal, rust, ours, endAsTheRust, timedShown, NoneAdded, IsMet, takes, Demand1, Demand2, Demand3, SeenAlike, SameRuns, transactions, writeReads, writes, reads, writtenBy, recordAfter, endAfter, struckAfter}
 use Rattle.ch32_i2c.proofs.Recorded.{seenOf, asSeen, record-is, end-is, struck-is}

@@ -1,13 +1,12 @@
 -- Begin and step of `init` and of `init_slave` make what their machines show.
 -- Assumes nothing.
 use mathlib.Core.Path.{_≡_, refl, ap, sym, _∙_}
-use mathlib.Core.Bool.{true, false}
 use mathlib.Core.List.{List, []}
 use mathlib.Core.Option.{some}
 use Prim.Native.Nat.{ℕ}
 use lib.ListN.{length}
 use Rattle.access.specs.declared.ending.Error.the-variants.{InvalidState}
-use Rattle.access.specs.Machine.{Machine, filled, kept, isEnd}
+use Rattle.access.specs.Machine.{filled, kept}
 use Rattle.block.specs.Bytes32.{bytesOf}
 use Rattle.timing.specs.declared.init.State.{State}
 use Rattle.timing.specs.Machine as timing

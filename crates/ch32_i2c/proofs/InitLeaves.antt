@@ -1,6 +1,6 @@
 -- What begin and step of `init` and `init_slave` leave.
 -- Assumes nothing.
-use mathlib.Core.Path.{_≡_, refl}
+use mathlib.Core.Path.{_≡_}
 use mathlib.Core.Bool.{Bool, _||_}
 use mathlib.Core.List.{List, []}
 use Prim.Native.Nat.{ℕ}

@@ -1,6 +1,6 @@
 -- Begin refuses with the first cause, and changes nothing.
 -- Assumes nothing.
-use mathlib.Core.Path.{_≡_, refl, ap, sym, _∙_}
+use mathlib.Core.Path.{_≡_, refl, ap, _∙_}
 use mathlib.Core.Bool.{Bool, true, false, cond, not, _||_}
 use mathlib.Core.List.{List, []}
 use mathlib.Core.Option.{Option, none, some}
@@ -28,7 +28,7 @@ use Rattle.calls.specs.InitSlave.{initSlaveOn}
 use Rattle.calls.specs.Response.{responseBegin, responseOn}
 use Rattle.calls.specs.Response as response
 use Rattle.images.specs.SlaveImage as slaveImage
-use Rattle.ch32_i2c.specs.Left.{Left, refusedWith, beginLeft}
+use Rattle.ch32_i2c.specs.Left.{refusedWith, beginLeft}
 use Rattle.ch32_i2c.specs.Init.{dutyOf, initBegin}
 use Rattle.ch32_i2c.specs.InitSlave.{configOf, unknownFlags, initSlaveBegin}
 use Rattle.ch32_i2c.specs.Transfer.{masterBegin}

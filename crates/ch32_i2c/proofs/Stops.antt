@@ -8,8 +8,7 @@ use Prim.Native.Nat.{ℕ}
 use lib.ListN.{length}
 use borrow.Author.Tests.{not-false}
 use Rattle.access.specs.declared.ending.Error.the-variants.{InvalidState}
-use Rattle.access.specs.Machine.{kept, isEnd}
-use Rattle.master.specs.declared.state.State as master
+use Rattle.access.specs.Machine.{isEnd}
 use Rattle.master.specs.Calls.{lentWith}
 use Rattle.master.specs.Steps as masterSteps
 use Rattle.slave.specs.declared.state.State as slave
@@ -28,7 +27,7 @@ use Rattle.calls.specs.Transfer as transfer
 use Rattle.calls.specs.InitSlave as initSlave
 use Rattle.calls.specs.Response as response
 use Rattle.calls.proofs.KeptLaws.{end-keeps}
-use Rattle.ch32_i2c.specs.Left.{Left, refusedWith, stepLeft}
+use Rattle.ch32_i2c.specs.Left.{refusedWith, stepLeft}
 use Rattle.slave.specs.declared.state.Kind.{Kind}
 use Rattle.slave.specs.Calls.{SlaveLent, sizeOf}
 use Rattle.images.specs.SlaveImage.{kindEntry}

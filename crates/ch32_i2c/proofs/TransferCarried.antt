@@ -3,20 +3,18 @@
 use mathlib.Core.Path.{_≡_, refl, ap, _∙_}
 use mathlib.Core.Bool.{Bool, true}
 use mathlib.Core.List.{List}
-use mathlib.Core.Option.{Option, some}
+use mathlib.Core.Option.{some}
 use Prim.Native.Nat.{ℕ}
 use lib.ListN.{length}
 use Rattle.access.proofs.Choice.{both-true}
 use Rattle.block.specs.Bytes32.{bytesOf}
 use Rattle.master.specs.declared.call.Call.{Call}
 use Rattle.master.specs.declared.state.Move.{Move}
-use Rattle.master.specs.declared.state.State.{State}
 use Rattle.master.specs.Machine.{master, owed, advance}
 use Rattle.master.specs.Fits.{fits}
 use Rattle.master.specs.Calls.{Lent, lentWith, shapeOf, refusal, Accepted}
 use Rattle.master.specs.Steps.{stateAt, isNone, fitsLent, needOf}
 use Rattle.master.proofs.AcceptedFits.{states-fit}
-use Rattle.images.specs.declared.master_image.MasterFound.{MasterFound}
 use Rattle.images.specs.MasterImage.{masterFields, kindEntry}
 use Rattle.calls.specs.OnBlock.{OnBlock}
 use Rattle.calls.specs.Transfer.{fitting, moved, transferOn}

@@ -1,4 +1,4 @@
-// The master's calls and the states of its machine. The meaning of both is in specs/, and the code is in crates `stages`, `needs`, `standing` and `driver`.
+// The master's calls and the states of its machine. The meaning of both is in specs/, and the code is in crates `master_step` and `master_call`.
 pub mod call;
 pub mod stage;
 pub mod state;
@@ -9,8 +9,6 @@ pub use call::FrameOptions;
 pub use call::Kind;
 pub use call::Setting;
 pub use stage::Stage;
-pub use state::Begun;
 pub use state::Move;
 pub use state::Progress;
 pub use state::State;
-pub use state::Stepped;

@@ -2,8 +2,6 @@
 use crate::call::Call;
 use crate::stage::Stage;
 use access::Ending;
-use access::Error;
-use access::Next;
 
 pub struct Progress {
     // The run's direction, number and bytes left, and the place of the next of them in the written or the read bytes.
@@ -29,15 +27,4 @@ pub struct State {
     pub call: Call,
     pub stage: Stage,
     pub progress: Progress,
-}
-
-// A state with what it hands out.
-pub struct Stepped {
-    pub state: State,
-    pub next: Next,
-}
-
-pub enum Begun {
-    Accepted(Stepped),
-    Refused(Error),
 }

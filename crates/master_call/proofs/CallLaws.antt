@@ -1,7 +1,7 @@
 -- What becomes of a block that holds a call, or none: a step in the run that is lent, and a refusal.
 -- Assumes nothing.
 use Prim.Native.Nat.{ℕ}
-use mathlib.Core.Path.{_≡_, refl, sym, ap, subst, _∙_}
+use mathlib.Core.Path.{_≡_, refl, sym, subst, _∙_}
 use mathlib.Core.Bool.{Bool, true, false, cond, not, _&&_, true≢false}
 use mathlib.Core.List.{List}
 use mathlib.Core.Option.{none}
@@ -9,7 +9,6 @@ use lib.Dec.{eqb, ltb}
 use lib.ListN.{length, getD}
 use Rattle.access.specs.Machine.{isEnd}
 use Rattle.access.proofs.Choice.{first-true, second-true}
-use Rattle.block.specs.declared.fields.Fields.{Fields}
 use Rattle.block.specs.Fields.{sameFields}
 use Rattle.block.specs.Bytes32.{fieldsOf, Bytes}
 use Rattle.operations.specs.declared.search.Run.{Run}
@@ -25,7 +24,7 @@ use Rattle.master.specs.declared.state.State.{State}
 use Rattle.master.specs.Machine.{owedAt, advanceAt, foundRun, runOf}
 use Rattle.master.specs.Fits.{fits, fitsAt, fitsNothing}
 use Rattle.master.specs.Calls.{settingOf, spansBy, shapeBy, refusalBy}
-use Rattle.master.specs.Steps.{needOf, fitsLent}
+use Rattle.master.specs.Steps.{fitsLent}
 use Rattle.stage_numbers.specs.MasterStage.{isStage}
 use Rattle.images.specs.declared.master_image.MasterFound.{MasterFound}
 use Rattle.images.specs.declared.master_image.MasterFound.the-variants.{At, Nothing}

@@ -6,16 +6,15 @@ use mathlib.Core.Bool.{Bool, true, false, cond, not, _&&_, true≢false}
 use mathlib.Core.List.{List}
 use native.Mathlib.Omega.{arith}
 use lib.Dec.{eqb}
-use lib.ListN.{getD, set}
-use borrow.Author.Tests.{eqb-true, eqb-false, eq-eqb}
+use lib.ListN.{set}
+use borrow.Author.Tests.{eqb-true, eqb-false}
 use Rattle.access.specs.declared.ending.Error.the-variants.{InvalidState}
-use Rattle.access.specs.declared.need.Need.{Need}
 use Rattle.access.specs.declared.need.Need.the-variants as need
 use Rattle.access.specs.Endings.{failed}
 use Rattle.access.specs.Machine.{kept, isEnd}
 use Rattle.access.proofs.Choice.{first-true, second-true}
 use Rattle.block.specs.Fields.{sameFields}
-use Rattle.block.specs.Bytes32.{wordAt, fieldsOf}
+use Rattle.block.specs.Bytes32.{fieldsOf}
 use Rattle.operations.specs.declared.search.FoundRun.{FoundRun}
 use Rattle.operations.specs.declared.search.FoundRun.the-variants as found-run
 use Rattle.operations.specs.Runs.{runAt}
@@ -27,7 +26,6 @@ use Rattle.master.specs.Steps.{needOf, fitsLent, isNone}
 use Rattle.images.specs.declared.master_image.MasterFound.{MasterFound}
 use Rattle.images.specs.declared.master_image.MasterFound.the-variants.{At, Nothing}
 use Rattle.images.specs.MasterImage.{masterFields, masterOf, masterIn}
-use Rattle.stage_numbers.specs.MasterStage.{stageOf}
 use Rattle.asked.specs.Asked.{Asks, isKeep}
 use Rattle.master_step.specs.Held.{Steps}
 use Rattle.master_step.proofs.KeepLaws.{kept-at}

@@ -1,12 +1,12 @@
 -- The runs of frames and write-reads, by how much is lent: what a step has to know there, and when there is none.
 -- Assumes nothing.
-use Prim.Native.Nat.{ℕ, zero, suc, _+_, _≤_, _<_}
-use mathlib.Core.Path.{_≡_, refl, sym, ap, subst, _∙_}
+use Prim.Native.Nat.{ℕ, _+_, _≤_, _<_}
+use mathlib.Core.Path.{_≡_, refl, sym, _∙_}
 use mathlib.Core.Bool.{Bool, true, false, cond, not, _&&_, _||_, true≢false}
 use mathlib.Core.List.{List, [], _∷_}
 use mathlib.Core.Option.{none}
 use native.Mathlib.Omega.{arith}
-use borrow.Author.Tests.{eqb-true, eqb-false, eq-eqb, ne-eqb, leb-true, leb-false, ltb-true, ltb-false, lt-ltb, le-ltb}
+use borrow.Author.Tests.{eqb-true, eqb-false, leb-true, leb-false, ltb-true, ltb-false, lt-ltb, le-ltb}
 use lib.Dec.{eqb, leb, ltb}
 use lib.ListN.{length, getD}
 use Rattle.access.proofs.Choice.{first-true, second-true}
@@ -14,22 +14,16 @@ use Rattle.block.specs.Bytes32.{wordAt, fieldsOf, Bytes}
 use Rattle.block.proofs.WidthLaws.{byte-below}
 use Rattle.operations.specs.declared.operation.Direction.the-variants as direction
 use Rattle.operations.specs.declared.search.Run.{Run}
-use Rattle.operations.specs.Operations.{isRead}
 use Rattle.operations.specs.Runs.{span}
 use Rattle.master_lent.proofs.LookLaws.{first-run, only-run, second-run, no-second, no-third}
-use Rattle.master.specs.declared.call.Call.{Call}
-use Rattle.master.specs.declared.call.Kind.{Kind}
-use Rattle.master.specs.declared.call.Kind.the-variants as kind
 use Rattle.master.specs.Rust.{send-start, send-stop, send-nack}
-use Rattle.master.specs.Calls.{refusalBy}
 use Rattle.master.specs.Steps.{fitsLent}
 use Rattle.stage_numbers.proofs.Bytes.{bytes}
-use Rattle.images.specs.MasterImage.{frameOptionsOf, kindOf, masterOf}
+use Rattle.images.specs.MasterImage.{frameOptionsOf, masterOf}
 use Rattle.master_step.specs.declared.here.Here.{Here}
-use Rattle.master_step.specs.Going.{hereIn}
 use Rattle.master_step.specs.Held.{Refuses, StepIn}
 use Rattle.master_step.proofs.GroupLaws.{unset}
-use Rattle.master_call.specs.CallStep.{isCallOf, heldIn, hereBy, fewEnough, isOpen, Stepped}
+use Rattle.master_call.specs.CallStep.{isCallOf, heldIn, hereBy, fewEnough, Stepped}
 use Rattle.master_call.proofs.CallLaws.{refused-open, absent-open, not-open, in-run, no-call, own-entry, is-call, is-ending, held}
 
 -- ---- what a frame asks, by the number of its option

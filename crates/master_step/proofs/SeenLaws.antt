@@ -1,12 +1,12 @@
 -- What the dispatching caller finds by its own tests is what the groups ask for: a block of 32 bytes whose numbers beside the stage's are
 -- a call's, with no error met, is the block of the call and the progress that it tells.
 -- Assumes nothing.
-use Prim.Native.Nat.{ℕ, _<_}
+use Prim.Native.Nat.{ℕ}
 use mathlib.Core.Path.{_≡_, sym, ap, _∙_}
 use mathlib.Core.Bool.{true, _&&_}
 use mathlib.Core.List.{List}
 use lib.Dec.{eqb}
-use lib.ListN.{length, getD}
+use lib.ListN.{length}
 use Rattle.access.proofs.Choice.{both-true}
 use Rattle.block.specs.declared.fields.Fields.{Fields}
 use Rattle.block.specs.Fields.{sameFields}

@@ -1,9 +1,9 @@
 -- More than 256 operations are refused for their number, whatever they are: the first 257 say as much as all.
 -- Assumes nothing.
-use mathlib.Core.Path.{_≡_, refl, ap, _∙_}
-use mathlib.Core.Bool.{Bool, true, false, cond}
+use mathlib.Core.Path.{_≡_, refl, ap}
+use mathlib.Core.Bool.{Bool, true, false, cond, not}
 use mathlib.Core.List.{List}
-use mathlib.Core.Option.{Option, some}
+use mathlib.Core.Option.{some}
 use Prim.Native.Nat.{ℕ, _*_, _≤_, _<_}
 use native.Mathlib.Omega.{arith}
 use borrow.Author.Tests.{ltb-true, lt-ltb}
@@ -11,22 +11,24 @@ use lib.Dec.{ltb}
 use lib.ListN.{length, take}
 use Rattle.registers.specs.declared.chip.Chip.{Chip}
 use Rattle.access.specs.declared.ending.Error.{Error}
-use Rattle.access.specs.declared.ending.Error.the-variants.{InvalidAddress, TooManyOperations}
+use Rattle.access.specs.declared.ending.Error.the-variants.{InvalidAddress, TooManyOperations, InvalidState}
+use Rattle.access.specs.Machine.{kept, isEnd}
 use Rattle.operations.specs.declared.operation.Operation.{Operation}
 use Rattle.operations.specs.Operations.{shaped}
-use Rattle.master.specs.declared.call.Call.{Call}
 use Rattle.master.specs.declared.call.Kind.{Kind}
 use Rattle.master.specs.declared.call.Kind.the-variants as kind
 use Rattle.master.specs.declared.stage.Stage.{Stage}
 use Rattle.master.specs.declared.state.Progress.{Progress}
 use Rattle.master.specs.declared.state.State.{State}
-use Rattle.master.specs.declared.state.Begun.the-variants.{Refused}
-use Rattle.master.specs.Calls.{lentWith, refuse, refusalBy, refusal}
-use Rattle.master.specs.Steps.{begin, begunWith, fitsLent, step, stepRead}
+use Rattle.master.specs.Calls.{lentWith, refuse, refusalBy}
+use Rattle.master.specs.Steps.{fitsLent}
 use Rattle.images.specs.declared.master_image.MasterFound.{MasterFound}
 use Rattle.images.specs.declared.master_image.MasterFound.the-variants.{At, Nothing}
 use Rattle.images.specs.Numbers.{transactionEntry}
-use Rattle.ch32_i2c.specs.Transfer.{callOf, masterBegin, masterHeld, heldLeft, masterStep, transactionBegin, transactionStep}
+use Rattle.calls.specs.OnBlock.{owedBy, movedBy, refused, stepOn, beginOn}
+use Rattle.calls.specs.Transfer.{masterHeld, fitting, transferOn}
+use Rattle.ch32_i2c.specs.Left.{Left, beginLeft}
+use Rattle.ch32_i2c.specs.Transfer.{callOf, masterBegin, masterStep, transactionBegin, transactionStep}
 use Rattle.operation_bytes.specs.Encoded.{encoded, first257}
 use Rattle.operation_bytes.proofs.EncodedLaws.{encoded-shaped, encoded-length, taken, take-all}
 
@@ -52,18 +54,19 @@ module _ (l : List ℕ) (h : Many l) (address written room : ℕ) where
 
 -- ---- begin
 
-many-refused : (l : List ℕ) → Many l → (c : Call) → c .kind ≡ kind.Transaction → (written : List ℕ) (room : ℕ) → begin c (lentWith l written room) ≡ Refused (cause (c .address))
-unfolding begin refusal
-many-refused l h c k written room =
-    ap (λ (o : Option Error). begunWith o c (lentWith l written room)) (ap (λ (x : Kind). refusalBy x (c .address) l (length written) room) k ∙ causes l h (c .address) (length written) room)
-
 begin-many : (l m : List ℕ) → Many l → Many m → (unknown : Bool) (chip address : ℕ) (block written read : List ℕ)
     → masterBegin unknown (callOf chip address kind.Transaction) block (lentWith l written (length read)) read ≡ masterBegin unknown (callOf chip address kind.Transaction) block (lentWith m written (length read)) read
-unfolding masterBegin
-begin-many l m hl hm unknown chip address block written read =
-    rw (many-refused l hl (callOf chip address kind.Transaction) refl written (length read), many-refused m hm (callOf chip address kind.Transaction) refl written (length read))
+unfolding masterBegin beginOn
+begin-many l m hl hm unknown chip address block written read = rw (causes l hl address (length written) (length read), causes m hm address (length written) (length read))
 
 -- ---- step
+
+-- what a transaction's step leaves of a block in which this is found
+abbrev foundLeft : List ℕ → MasterFound → List ℕ → List ℕ → List ℕ → ℕ → Left
+foundLeft l g block written read a =
+    let c = transferOn l (length written) (length read) transactionEntry in
+    let o = fitting l (length written) (length read) g in
+    beginLeft written (cond (not (isEnd (owedBy c o))) (movedBy c o block a) (refused InvalidState block)) (kept (owedBy c o) a read)
 
 module _ (chip : Chip) (address : ℕ) (stage : Stage) (progress : Progress) where
   -- a transaction's state does not fit
@@ -72,19 +75,18 @@ module _ (chip : Chip) (address : ℕ) (stage : Stage) (progress : Progress) whe
   never-fits l h written room = rw (causes l h address written room)
 
   module _ (l m : List ℕ) (hl : Many l) (hm : Many m) (block written read : List ℕ) (a : ℕ) where
-    never-steps : heldLeft (At (stateOf chip address kind.Transaction stage progress)) block l written read a ≡ heldLeft (At (stateOf chip address kind.Transaction stage progress)) block m written read a
-    unfolding step stepRead
+    never-steps : foundLeft l (At (stateOf chip address kind.Transaction stage progress)) block written read a ≡ foundLeft m (At (stateOf chip address kind.Transaction stage progress)) block written read a
     never-steps = rw (never-fits l hl (length written) (length read), never-fits m hm (length written) (length read))
 
     -- and other calls are lent no list
-    step-many : (x : Kind) → heldLeft (At (stateOf chip address x stage progress)) block l written read a ≡ heldLeft (At (stateOf chip address x stage progress)) block m written read a
-    unfolding step stepRead fitsLent
+    step-many : (x : Kind) → foundLeft l (At (stateOf chip address x stage progress)) block written read a ≡ foundLeft m (At (stateOf chip address x stage progress)) block written read a
+    unfolding fitsLent
     step-many kind.Transaction = never-steps
     step-many kind.WriteRead = refl
     step-many (kind.Write f) = refl
     step-many (kind.Read f) = refl
 
-held-many : (l m : List ℕ) → Many l → Many m → (g : MasterFound) (block written read : List ℕ) (a : ℕ) → heldLeft g block l written read a ≡ heldLeft g block m written read a
+held-many : (l m : List ℕ) → Many l → Many m → (g : MasterFound) (block written read : List ℕ) (a : ℕ) → foundLeft l g block written read a ≡ foundLeft m g block written read a
 held-many l m hl hm (At s) block written read a = step-many (s .call .chip) (s .call .address) (s .stage) (s .progress) l m hl hm block written read a (s .call .kind)
 held-many l m hl hm Nothing block written read a = refl
 
@@ -110,5 +112,5 @@ module _ (block : List ℕ) (os : List Operation) (written read : List ℕ) wher
   begin-first chip address = first-alike (λ (l : List ℕ). transactionBegin block chip address l written read) (λ l m hl hm. begin-many l m hl hm (ltb 3 chip) chip address block written read) os
 
   pub step-first : (a : ℕ) → transactionStep block (encoded (first257 os)) written read a ≡ transactionStep block (encoded os) written read a
-  unfolding masterStep
+  unfolding masterStep stepOn
   step-first a = first-alike (λ (l : List ℕ). transactionStep block l written read a) (λ l m hl hm. held-many l m hl hm (masterHeld transactionEntry block) block written read a) os

@@ -1,6 +1,5 @@
 -- Layer 2: `init_slave` as a machine.
 use mathlib.Core.Bool.{Bool, true, false, cond, not, _&&_, _||_}
-use mathlib.Core.List.{[]}
 use mathlib.Core.Option.{Option, none, some}
 use Prim.Native.Nat.{ℕ}
 use lib.Dec.{eqb, ltb}
@@ -13,7 +12,7 @@ use Rattle.access.specs.declared.ending.Error.the-variants.{InvalidAddress}
 use Rattle.access.specs.declared.need.Need.{Need}
 use Rattle.access.specs.declared.need.Need.the-variants as need
 use Rattle.access.specs.Endings.{done}
-use Rattle.access.specs.Machine.{Machine, filled, stepState, stepNext}
+use Rattle.access.specs.Machine.{Machine}
 use Rattle.slave.specs.declared.config.SlaveAddress.{SlaveAddress}
 use Rattle.slave.specs.declared.config.SlaveAddress.the-variants.{SevenBit, TenBit}
 use Rattle.slave.specs.declared.config.SecondAddress.{SecondAddress}
@@ -22,9 +21,6 @@ use Rattle.slave.specs.declared.config.SlaveConfig.{SlaveConfig}
 use Rattle.slave.specs.declared.init.InitStage.{InitStage}
 use Rattle.slave.specs.declared.init.InitStage.the-variants.{DisableRead, DisableWrite, BufferRead, BufferWrite, Own, Second, EnableRead, EnableWrite, Ended}
 use Rattle.slave.specs.declared.init.InitState.{InitState}
-use Rattle.slave.specs.declared.init.InitStepped.{InitStepped}
-use Rattle.slave.specs.declared.init.InitBegun.{InitBegun}
-use Rattle.slave.specs.declared.init.InitBegun.the-variants.{Accepted, Refused}
 
 -- ---- refusals
 
@@ -99,17 +95,3 @@ initMachine = record { State = InitState; need = owed; move = advance }
 
 abbrev pub started : SlaveConfig → InitState
 started c = record { config = c; stage = DisableRead; saved = 0 }
-
--- a state with what it hands out
-abbrev pub handed : InitState → InitStepped
-handed s = record { state = s; next = filled [] (owed s) }
-
-abbrev pub begunWith : Option Error → SlaveConfig → InitBegun
-begunWith (some e) c = Refused e
-begunWith none c = Accepted (handed (started c))
-
-unfoldable pub begin : SlaveConfig → InitBegun
-begin c = begunWith (initRefusal c) c
-
-unfoldable pub step : InitState → ℕ → InitStepped
-step s a = record { state = stepState initMachine s a; next = stepNext initMachine [] s a }

@@ -1,7 +1,5 @@
 // The states of `init_slave`.
 use crate::config::SlaveConfig;
-use access::Error;
-use access::Next;
 
 // The access that is owed: each `modify` is a read and a write.
 pub enum InitStage {
@@ -21,14 +19,4 @@ pub struct InitState {
     pub stage: InitStage,
     // The word of the last read.
     pub saved: u16,
-}
-
-pub struct InitStepped {
-    pub state: InitState,
-    pub next: Next,
-}
-
-pub enum InitBegun {
-    Accepted(InitStepped),
-    Refused(Error),
 }

@@ -1,8 +1,6 @@
 // The state of a slave call: no payload.
 use crate::stage::Stage;
 use access::Ending;
-use access::Error;
-use access::Next;
 use registers::Chip;
 
 // The entry.
@@ -39,15 +37,4 @@ pub struct State {
     pub kind: Kind,
     pub stage: Stage,
     pub progress: Progress,
-}
-
-// A state with what it hands out.
-pub struct Stepped {
-    pub state: State,
-    pub next: Next,
-}
-
-pub enum Begun {
-    Accepted(Stepped),
-    Refused(Error),
 }

@@ -1,12 +1,7 @@
-// `init_slave`, access by access: `begin` hands out the first access or refuses, and `step` takes its answer and hands out what
-// follows.
+// `init_slave`, access by access: which access a state owes, and where its answer leads.
 ghost use mathlib.Core.Path.{_≡_};
-ghost use Rattle.slave.specs.Init.{ownWord, secondWord, enableWord, to, saving, owedAt, owed, advanceAt, advance, handed, begin, step};
-use crate::config;
-use crate::config::Validation;
-use access::Error;
+ghost use Rattle.slave.specs.Init.{ownWord, secondWord, enableWord, to, saving, owedAt, owed, advanceAt, advance};
 use access::Need;
-use access::Next;
 use registers::Register;
 use registers::addresses;
 use registers::bits;
@@ -14,10 +9,8 @@ use registers::word;
 use slave::SecondAddress;
 use slave::SlaveAddress;
 use slave::SlaveConfig;
-use slave::init::InitBegun;
 use slave::init::InitStage;
 use slave::init::InitState;
-use slave::init::InitStepped;
 
 // OADDR1's word.
 fn own_word(own: SlaveAddress) -> u16
@@ -125,38 +118,4 @@ pub fn advance(state: InitState, answer: u16) -> InitState
 {
     let stage = state.stage;
     advance_at(stage, state, answer)
-}
-
-// A state with what it hands out.
-fn handed(state: InitState) -> InitStepped
-    ensures { λ r. ⌜ r ≡ handed state ⌝ }
-{
-    let none = [0u8; 0];
-    let next = access::need::fill(owed(state), &none);
-    InitStepped { state, next }
-}
-
-pub fn begin(config: SlaveConfig) -> InitBegun
-    ensures { λ r. ⌜ r ≡ begin config ⌝ }
-{
-    match config::validate(config) {
-        Validation::Valid => InitBegun::Accepted(handed(InitState {
-            config,
-            stage: InitStage::DisableRead,
-            saved: 0,
-        })),
-        Validation::Refused(error) => InitBegun::Refused(error),
-    }
-}
-
-pub fn step(state: InitState, answer: u16) -> InitStepped
-    ensures { λ r. ⌜ r ≡ step state answer ⌝ }
-{
-    if access::need::is_end(owed(state)) {
-        return InitStepped {
-            state,
-            next: Next::End(access::ending::failed(Error::InvalidState)),
-        };
-    }
-    handed(advance(state, answer))
 }

@@ -1,5 +1,3 @@
-// `init_slave` with its checks, access by access, and what is lent for a slave call. The steps of listening and of responses are in crate
-// `slave_step`.
+// `validate` of a slave's configuration, and `init_slave`, access by access.
 pub mod config;
 pub mod init;
-pub mod lent;

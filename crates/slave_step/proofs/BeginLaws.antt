@@ -4,7 +4,6 @@ use mathlib.Core.Path.{_≡_, refl, ap, subst, sym, _∙_}
 use mathlib.Core.List.{List}
 use Prim.Native.Nat.{ℕ}
 use Rattle.registers.specs.declared.register.Register.the-variants.{Star1}
-use Rattle.access.specs.declared.need.Need.{Need}
 use Rattle.access.specs.declared.need.Need.the-variants as need
 use Rattle.block.specs.declared.fields.Fields.{Fields}
 use Rattle.block.specs.Bytes32.{bytesOf}
@@ -13,7 +12,6 @@ use Rattle.images.specs.SlaveImage.{slaveFields}
 use Rattle.slave.specs.declared.state.Kind.{Kind}
 use Rattle.slave.specs.declared.state.Kind.the-variants.{Listen, RespondToWrite, RespondToRead}
 use Rattle.slave.specs.Machine.{owedAt, start}
-use Rattle.slave.specs.Steps.{stateAt}
 use Rattle.asked.specs.Asked.{Asks}
 use Rattle.slave_step.specs.Held.{begunFields, firstFields, Moves}
 

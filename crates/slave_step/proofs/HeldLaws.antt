@@ -6,7 +6,7 @@ use mathlib.Core.Bool.{Bool, true, false, cond, not, _&&_, _||_, true≢false}
 use mathlib.Core.List.{List}
 use native.Mathlib.Omega.{arith}
 use lib.Dec.{eqb, leb, ltb}
-use lib.ListN.{length, getD}
+use lib.ListN.{length}
 use borrow.Author.Tests.{eqb-true, ne-eqb, lt-ltb, le-leb, lt-leb, leb-true}
 use Rattle.access.specs.declared.ending.Error.{Error}
 use Rattle.access.specs.Endings.{errorOf, returned, failed, endingOf, isDone, hasFailed, endingError, endingValue}

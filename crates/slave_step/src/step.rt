@@ -2,11 +2,10 @@
 ghost use mathlib.Core.Path.{_≡_};
 ghost use lib.ListN.{length};
 ghost use Rattle.block.specs.Bytes32.{blockSize};
-ghost use Rattle.slave_step.specs.Held.{Step, StepsFrom, StoresFrom, heldIn};
+ghost use Rattle.slave_step.specs.Held.{Step, StepsFrom, heldIn};
 use crate::abort;
 use crate::clear;
 use crate::held;
-use crate::keep;
 use crate::listen;
 use crate::poll;
 use crate::put;
@@ -14,7 +13,6 @@ use crate::ready;
 use crate::receive;
 use crate::send;
 use crate::stage;
-use access::lent;
 
 // By the group of its stage. A call that has ended takes no step, and no stage is of another group.
 pub fn step_at(
@@ -66,21 +64,4 @@ pub fn step(block: &mut [u8], entry: u8, size: usize, answer: u16) -> u64
         return asked::refused();
     }
     step_at(block, entry, lent, count, group, what, phase, answer)
-}
-
-// The same with a buffer lent: a byte that was to be kept is stored at the place that the block had counted.
-pub fn step_keeping(block: &mut [u8], entry: u8, buffer: &mut [u8], answer: u16) -> u64
-    requires { ⌜ length (now block) ≡ blockSize ⌝ }
-    ensures { λ r. ⌜ StepsFrom (heldIn entry (now (block .entry))) (length (now (buffer .entry))) answer (now (block .entry)) (now (block .exit)) r ⌝ }
-    ensures { λ _. ⌜ StoresFrom (heldIn entry (now (block .entry))) (length (now (buffer .entry))) answer (now (buffer .entry)) (now (buffer .exit)) ⌝ }
-{
-    let size = buffer.len();
-    let count = put::count_at(block);
-    let kept = keep::is_kept(block[put::GROUP], size, count);
-    let asked = step(block, entry, size, answer);
-    if kept & (asked != asked::refused()) {
-        lent::put_at(buffer, count, (answer % 256) as u8);
-        return asked;
-    }
-    asked
 }

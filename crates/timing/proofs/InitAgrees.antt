@@ -1,7 +1,7 @@
 -- The machine of `init` is the Rust's `init`.
 -- Assumes nothing.
 use Prim.Native.Nat.{ℕ}
-use mathlib.Core.Path.{refl, ap}
+use mathlib.Core.Path.{refl}
 use mathlib.Core.Bool.{true}
 use mathlib.Core.List.{[]}
 use Rattle.registers.specs.declared.chip.Chip.{Chip}
@@ -14,7 +14,7 @@ use Rattle.access.proofs.Agreement.{Agree, ends, reads, writes, cases}
 use Rattle.timing.specs.declared.settings.Timing.{Timing}
 use Rattle.timing.specs.declared.init.Stage.the-variants.{ClockWrite}
 use Rattle.timing.specs.Rust.{init}
-use Rattle.timing.specs.Machine.{clockWord, saving, owed, advance, begin, begunAt, initMachine, started}
+use Rattle.timing.specs.Machine.{clockWord, saving, owed, advance, initMachine, started}
 use Rattle.timing.specs.Claims.{InitIsTheRust}
 
 module _ (chip : Chip) (t : Timing) (n : ℕ) where
@@ -33,6 +33,5 @@ module _ (chip : Chip) (t : Timing) (n : ℕ) where
       cases (chip .«i2c_v3») (writes refl (λ _. clock-agrees f)) (clock-agrees f)))))))))
 
 pub init-is-the-rust : InitIsTheRust
-unfolding begin
 init-is-the-rust chip input frequency duty t e =
-    record { begins = ap (begunAt chip) e; same = λ answers turns h. init-agrees chip t turns .same answers h }
+    record { same = λ answers turns h. init-agrees chip t turns .same answers h }

@@ -11,17 +11,15 @@ use Rattle.access.specs.Machine.{shownFrom}
 use Rattle.timing.specs.declared.settings.Duty.{Duty}
 use Rattle.timing.specs.declared.settings.Timing.{Timing}
 use Rattle.timing.specs.declared.settings.Timed.the-variants.{At}
-use Rattle.timing.specs.declared.init.Begun.the-variants.{Accepted}
 use Rattle.timing.specs.Rust.{timing, init}
-use Rattle.timing.specs.Machine.{initMachine, started, handed, begin}
+use Rattle.timing.specs.Machine.{initMachine, started}
 
 -- what is seen of the Rust's `init` after a list of answers
 abbrev pub rustInit : Chip → Timing → ℕ → List ℕ → Shown
 rustInit chip t turns answers = shownOf 0 (callOf (init chip t) (λ _. done) turns) answers
 
--- Demand 2 for `init`: a call without an added cause begins, and is the Rust's for every list of answers
+-- Demand 2 for `init`: a call with settings is the Rust's for every list of answers
 pub record IsTheRust (chip : Chip) (input frequency : ℕ) (duty : Duty) (t : Timing) : Type 0 where
-  pub begins : begin chip input frequency duty ≡ Accepted (handed (started chip t))
   pub same : (answers : List ℕ) (turns : ℕ) → length answers < turns → shownFrom initMachine [] (started chip t) answers ≡ rustInit chip t turns answers
 
 abbrev pub InitIsTheRust : Type 0

@@ -1,7 +1,6 @@
 -- Layer 2: `init` as a machine.
 use Prim.Native.Nat.{ℕ}
 use mathlib.Core.Bool.{true, false, cond}
-use mathlib.Core.List.{[]}
 use Rattle.registers.specs.declared.chip.Chip.{Chip}
 use Rattle.registers.specs.declared.register.Register.the-variants.{Ctlr1, Ctlr2, Ckcfgr, Rtr}
 use Rattle.registers.specs.Bits.{PE, SWRST, DUTY, «F_S»}
@@ -10,17 +9,11 @@ use Rattle.registers.specs.Word.{putBit, putField}
 use Rattle.access.specs.declared.need.Need.{Need}
 use Rattle.access.specs.declared.need.Need.the-variants.{Read, Write, End}
 use Rattle.access.specs.Endings.{done}
-use Rattle.access.specs.Machine.{Machine, filled, stepState, stepNext}
-use Rattle.timing.specs.declared.settings.Duty.{Duty}
+use Rattle.access.specs.Machine.{Machine}
 use Rattle.timing.specs.declared.settings.Timing.{Timing}
-use Rattle.timing.specs.declared.settings.Timed.{Timed}
-use Rattle.timing.specs.declared.settings.Timed.the-variants as timed
 use Rattle.timing.specs.declared.init.Stage.{Stage}
 use Rattle.timing.specs.declared.init.Stage.the-variants.{DisableRead, DisableWrite, ResetRead, ResetWrite, ReleaseRead, ReleaseWrite, FrequencyRead, FrequencyWrite, RiseWrite, ClockWrite, EnableRead, EnableWrite, Ended}
 use Rattle.timing.specs.declared.init.State.{State}
-use Rattle.timing.specs.declared.init.Stepped.{Stepped}
-use Rattle.timing.specs.declared.init.Begun.{Begun}
-use Rattle.timing.specs.declared.init.Begun.the-variants.{Accepted, Refused}
 use Rattle.timing.specs.Rust.{timing}
 
 -- CKCFGR's word
@@ -75,17 +68,3 @@ initMachine = record { State = State; need = owed; move = advance }
 
 abbrev pub started : Chip → Timing → State
 started chip t = record { chip = chip; timing = t; stage = DisableRead; saved = 0 }
-
--- a state with what it hands out
-abbrev pub handed : State → Stepped
-handed s = record { state = s; next = filled [] (owed s) }
-
-abbrev pub begunAt : Chip → Timed → Begun
-begunAt chip (timed.At t) = Accepted (handed (started chip t))
-begunAt chip (timed.Refused e) = Refused e
-
-unfoldable pub begin : Chip → ℕ → ℕ → Duty → Begun
-begin chip input frequency duty = begunAt chip (timing chip input frequency duty)
-
-unfoldable pub step : State → ℕ → Stepped
-step s a = record { state = stepState initMachine s a; next = stepNext initMachine [] s a }

@@ -1,12 +1,8 @@
-// `init`, access by access: `begin` hands out the first access, and `step` takes its answer and hands out what follows.
+// `init`, access by access: which access a state owes, and where its answer leads.
 ghost use mathlib.Core.Path.{_≡_};
-ghost use Rattle.timing.specs.Machine.{clockWord, to, saving, owedAt, owed, advanceAt, advance, handed, begin, step};
-use crate::settings::Duty;
-use crate::settings::Timed;
+ghost use Rattle.timing.specs.Machine.{clockWord, to, saving, owedAt, owed, advanceAt, advance};
 use crate::settings::Timing;
-use access::Error;
 use access::Need;
-use access::Next;
 use registers::Chip;
 use registers::Register;
 use registers::bits;
@@ -36,16 +32,6 @@ pub struct State {
     pub stage: Stage,
     // The word of the last read.
     pub saved: u16,
-}
-
-pub struct Stepped {
-    pub state: State,
-    pub next: Next,
-}
-
-pub enum Begun {
-    Accepted(Stepped),
-    Refused(Error),
 }
 
 // CKCFGR's word.
@@ -159,39 +145,4 @@ pub fn advance(state: State, answer: u16) -> State
 {
     let stage = state.stage;
     advance_at(stage, state, answer)
-}
-
-// A state with what it hands out.
-fn handed(state: State) -> Stepped
-    ensures { λ r. ⌜ r ≡ handed state ⌝ }
-{
-    let none = [0u8; 0];
-    let next = access::need::fill(owed(state), &none);
-    Stepped { state, next }
-}
-
-pub fn begin(input: u32, frequency: u32, duty: Duty, chip: Chip) -> Begun
-    ensures { λ r. ⌜ r ≡ begin chip input frequency duty ⌝ }
-{
-    match crate::timing::timing(input, frequency, duty, chip) {
-        Timed::At(timing) => Begun::Accepted(handed(State {
-            chip,
-            timing,
-            stage: Stage::DisableRead,
-            saved: 0,
-        })),
-        Timed::Refused(error) => Begun::Refused(error),
-    }
-}
-
-pub fn step(state: State, answer: u16) -> Stepped
-    ensures { λ r. ⌜ r ≡ step state answer ⌝ }
-{
-    if access::need::is_end(owed(state)) {
-        return Stepped {
-            state,
-            next: Next::End(access::ending::failed(Error::InvalidState)),
-        };
-    }
-    handed(advance(state, answer))
 }

@@ -2,7 +2,7 @@
 -- Assumes nothing.
 use borrow.Author.Needs.{needs}
 use mathlib.Core.Path.{refl}
-use Rattle.asked.proofs.FillLaws.{met}
+use Rattle.asked.proofs.MetLaws.{met}
 use Rattle.asked.proofs.failed.Statement.{statement}
 use Rattle.asked.proofs.failed.Tie as tie
 

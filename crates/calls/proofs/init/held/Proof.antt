@@ -1,7 +1,6 @@
 -- `calls::init::held` meets its contract.
 -- Assumes nothing.
 use borrow.Author.Needs.{needs}
-use borrow.Author.Tests.{eq-eqb, ne-eqb}
 use Rattle.calls.proofs.InitLaws.{init-short, init-whole}
 use Rattle.calls.proofs.init.held.Statement.{statement}
 use Rattle.calls.proofs.init.held.Tie as tie

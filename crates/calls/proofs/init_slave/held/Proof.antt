@@ -1,7 +1,6 @@
 -- `calls::init_slave::held` meets its contract.
 -- Assumes nothing.
 use borrow.Author.Needs.{needs}
-use borrow.Author.Tests.{eq-eqb, ne-eqb}
 use Rattle.calls.proofs.InitLaws.{init-slave-short, init-slave-whole}
 use Rattle.calls.proofs.init_slave.held.Statement.{statement}
 use Rattle.calls.proofs.init_slave.held.Tie as tie

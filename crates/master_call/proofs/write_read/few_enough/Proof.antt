@@ -1,6 +1,5 @@
 -- `master_call::write_read::few_enough` meets its contract.
 -- Assumes nothing.
-use borrow.Author.Needs.{needs}
 use Rattle.master_call.proofs.HeldLaws.{few, many}
 use Rattle.master_call.proofs.write_read.few_enough.Statement.{statement}
 use Rattle.master_call.proofs.write_read.few_enough.Tie as tie
