@@ -27,7 +27,6 @@ use Rattle.master.specs.declared.call.Kind.{Kind}
 use Rattle.master.specs.declared.call.Call as master
 use Rattle.master.specs.Machine.{master, start, owed}
 use Rattle.master.specs.Calls.{Lent, lentWith, refusal, callShown, seenAfter, shapeOf}
-
 use Rattle.master.proofs.CallAgrees.{passed-cause}
 use Rattle.master.proofs.AcceptedFits.{states-fit}
 use Rattle.slave.specs.declared.config.SlaveConfig.{SlaveConfig}

@@ -1,9 +1,9 @@
 -- More than 256 operations are refused for their number, whatever they are: the first 257 say as much as all.
 -- Assumes nothing.
-use mathlib.Core.Path.{_≡_, refl, ap}
+use mathlib.Core.Path.{_≡_, refl, ap, sym, _∙_}
 use mathlib.Core.Bool.{Bool, true, false, cond, not}
 use mathlib.Core.List.{List}
-use mathlib.Core.Option.{some}
+use mathlib.Core.Option.{none, some}
 use Prim.Native.Nat.{ℕ, _*_, _≤_, _<_}
 use native.Mathlib.Omega.{arith}
 use borrow.Author.Tests.{ltb-true, lt-ltb}
@@ -12,7 +12,12 @@ use lib.ListN.{length, take}
 use Rattle.registers.specs.declared.chip.Chip.{Chip}
 use Rattle.access.specs.declared.ending.Error.{Error}
 use Rattle.access.specs.declared.ending.Error.the-variants.{InvalidAddress, TooManyOperations, InvalidState}
+use Rattle.access.specs.declared.need.Need.{Need}
+use Rattle.access.specs.declared.need.Need.the-variants as need
+use Rattle.access.specs.Endings.{failed}
 use Rattle.access.specs.Machine.{kept, isEnd}
+use Rattle.block.specs.Bytes32.{bytesOf}
+use Rattle.images.specs.MasterImage.{masterFields}
 use Rattle.operations.specs.declared.operation.Operation.{Operation}
 use Rattle.operations.specs.Operations.{shaped}
 use Rattle.master.specs.declared.call.Kind.{Kind}
@@ -21,12 +26,12 @@ use Rattle.master.specs.declared.stage.Stage.{Stage}
 use Rattle.master.specs.declared.state.Progress.{Progress}
 use Rattle.master.specs.declared.state.State.{State}
 use Rattle.master.specs.Calls.{lentWith, refuse, refusalBy}
-use Rattle.master.specs.Steps.{fitsLent}
+use Rattle.master.specs.Steps.{fitsLent, needOf}
 use Rattle.images.specs.declared.master_image.MasterFound.{MasterFound}
 use Rattle.images.specs.declared.master_image.MasterFound.the-variants.{At, Nothing}
 use Rattle.images.specs.Numbers.{transactionEntry}
 use Rattle.calls.specs.OnBlock.{owedBy, movedBy, refused, stepOn, beginOn}
-use Rattle.calls.specs.Transfer.{masterHeld, fitting, transferOn}
+use Rattle.calls.specs.Transfer.{masterHeld, fitting, moved, transferOn}
 use Rattle.ch32_i2c.specs.Left.{Left, beginLeft}
 use Rattle.ch32_i2c.specs.Transfer.{callOf, masterBegin, masterStep, transactionBegin, transactionStep}
 use Rattle.operation_bytes.specs.Encoded.{encoded, first257}
@@ -68,6 +73,23 @@ foundLeft l g block written read a =
     let o = fitting l (length written) (length read) g in
     beginLeft written (cond (not (isEnd (owedBy c o))) (movedBy c o block a) (refused InvalidState block)) (kept (owedBy c o) a read)
 
+-- the same by whether the state fits
+abbrev leftIf : Bool → Need → State → List ℕ → List ℕ → List ℕ → ℕ → Left
+leftIf fits n to block written read a =
+    let owed = cond fits n (need.End (failed InvalidState)) in
+    beginLeft written (cond (not (isEnd owed)) (cond fits (record { need = needOf to; block = bytesOf (masterFields to) }) (refused InvalidState block)) (refused InvalidState block)) (kept owed a read)
+
+left-if : (l : List ℕ) (s : State) (block written read : List ℕ) (a : ℕ)
+    → foundLeft l (At s) block written read a ≡ leftIf (fitsLent s l (length written) (length read)) (needOf s) (moved l (length written) (length read) s a) block written read a
+left-if l s block written read a = go (fitsLent s l (length written) (length read))
+  where
+    go : (v : Bool)
+        → (let c = transferOn l (length written) (length read) transactionEntry in
+        beginLeft written (cond (not (isEnd (owedBy c (cond v (some s) none)))) (movedBy c (cond v (some s) none) block a) (refused InvalidState block)) (kept (owedBy c (cond v (some s) none)) a read))
+        ≡ leftIf v (needOf s) (moved l (length written) (length read) s a) block written read a
+    go true = refl
+    go false = refl
+
 module _ (chip : Chip) (address : ℕ) (stage : Stage) (progress : Progress) where
   -- a transaction's state does not fit
   never-fits : (l : List ℕ) → Many l → (written room : ℕ) → fitsLent (stateOf chip address kind.Transaction stage progress) l written room ≡ false
@@ -82,9 +104,9 @@ module _ (chip : Chip) (address : ℕ) (stage : Stage) (progress : Progress) whe
     step-many : (x : Kind) → foundLeft l (At (stateOf chip address x stage progress)) block written read a ≡ foundLeft m (At (stateOf chip address x stage progress)) block written read a
     unfolding fitsLent
     step-many kind.Transaction = never-steps
-    step-many kind.WriteRead = refl
-    step-many (kind.Write f) = refl
-    step-many (kind.Read f) = refl
+    step-many kind.WriteRead = left-if l (stateOf chip address kind.WriteRead stage progress) block written read a ∙ sym (left-if m (stateOf chip address kind.WriteRead stage progress) block written read a)
+    step-many (kind.Write f) = left-if l (stateOf chip address (kind.Write f) stage progress) block written read a ∙ sym (left-if m (stateOf chip address (kind.Write f) stage progress) block written read a)
+    step-many (kind.Read f) = left-if l (stateOf chip address (kind.Read f) stage progress) block written read a ∙ sym (left-if m (stateOf chip address (kind.Read f) stage progress) block written read a)
 
 held-many : (l m : List ℕ) → Many l → Many m → (g : MasterFound) (block written read : List ℕ) (a : ℕ) → foundLeft l g block written read a ≡ foundLeft m g block written read a
 held-many l m hl hm (At s) block written read a = step-many (s .call .chip) (s .call .address) (s .stage) (s .progress) l m hl hm block written read a (s .call .kind)
