@@ -1,10 +1,12 @@
-// What a machine's state needs next, with no payload in it: `fill` and `keep` are where payload enters and leaves.
+// What a machine's state needs next, with no payload in it.
 ghost use mathlib.Core.Path.{_≡_};
-ghost use Rattle.access.specs.Machine.{filled, kept, isEnd};
+ghost use Rattle.access.specs.Numbers.{nextNumber, HoldsWords};
+ghost use Rattle.access.specs.Machine.{filled, isEnd};
+use crate::ending;
 use crate::ending::Ending;
 use crate::lent;
-use crate::next::Next;
 use registers::Register;
+use registers::register;
 
 pub enum Need {
     Read(Register),
@@ -18,33 +20,25 @@ pub enum Need {
     End(Ending),
 }
 
-// What is handed out for a need, with these bytes lent for sending.
-pub fn fill(need: Need, bytes: &[u8]) -> Next
-    ensures { λ r. ⌜ r ≡ filled (now (bytes .entry)) need ⌝ }
+// What C sees of a need, with these bytes lent for sending: the kind in bits 0 to 7, the register or the end's number in bits 8 to 15,
+// the value in bits 16 to 31.
+pub fn number(need: Need, bytes: &[u8]) -> u64
+    ensures { λ r. ⌜ r ≡ nextNumber (filled (now (bytes .entry)) need) ⌝ }
+    ensures { λ _. ⌜ HoldsWords (filled (now (bytes .entry)) need) ⌝ }
 {
     match need {
-        Need::Read(register) => Next::Read(register),
-        Need::Write(register, value) => Next::Write(register, value),
-        Need::Clock => Next::Clock,
-        Need::Send(place) => Next::Write(Register::Datar, lent::byte_at(bytes, place) as u16),
-        Need::Keep(_) => Next::Read(Register::Datar),
-        Need::Drop => Next::Read(Register::Datar),
-        Need::End(ending) => Next::End(ending),
-    }
-}
-
-// Stores the answer to a need in these bytes, where it is to be kept.
-pub fn keep(need: Need, answer: u16, bytes: &mut [u8])
-    ensures { λ _. ⌜ now (bytes .exit) ≡ kept need answer (now (bytes .entry)) ⌝ }
-{
-    match need {
-        Need::Read(_) => {}
-        Need::Write(_, _) => {}
-        Need::Clock => {}
-        Need::Send(_) => {}
-        Need::Keep(place) => lent::put_at(bytes, place, (answer % 256) as u8),
-        Need::Drop => {}
-        Need::End(_) => {}
+        Need::Read(register) => 1 + register::number(register) as u64 * 256,
+        Need::Write(register, value) => {
+            2 + register::number(register) as u64 * 256 + value as u64 * 65536
+        }
+        Need::Clock => 3,
+        Need::Send(place) => {
+            let byte = lent::byte_at(bytes, place);
+            2 + register::number(Register::Datar) as u64 * 256 + byte as u64 * 65536
+        }
+        Need::Keep(_) => 1 + register::number(Register::Datar) as u64 * 256,
+        Need::Drop => 1 + register::number(Register::Datar) as u64 * 256,
+        Need::End(ending) => ending::ending_number(ending),
     }
 }
 

@@ -8,14 +8,13 @@ ghost use Rattle.access.specs.Numbers.{nextNumber, HoldsWords};
 use access::Need;
 use access::lent;
 use access::need;
-use access::next;
 
 // A byte to send is put in from the bytes lent.
 pub fn number(need: Need, written: &[u8]) -> u64
     ensures { λ r. ⌜ r ≡ nextNumber (filled (now (written .entry)) need) ⌝ }
     ensures { λ _. ⌜ HoldsWords (filled (now (written .entry)) need) ⌝ }
 {
-    next::number(need::fill(need, written))
+    need::number(need, written)
 }
 
 // A byte that came is stored, if it is to be kept.
