@@ -2,13 +2,14 @@
 -- Assumes nothing.
 use mathlib.Core.Path.{_≡_, refl, ap, sym, subst, _∙_}
 use mathlib.Core.Bool.{Bool, false, cond, not, _||_}
-use mathlib.Core.List.{List, []}
+use mathlib.Core.List.{List, [], _∷_, _++_}
 use mathlib.Core.Option.{Option, none, some}
 use Prim.Native.Nat.{ℕ, _≤_}
 use native.Mathlib.Omega.{arith}
 use lib.Dec.{eqb, ltb}
 use lib.ListN.{length}
 use borrow.Author.Tests.{eqb-true, ltb-false, not-false, le-ltb}
+use Rattle.access.specs.declared.ending.Ending.{Ending}
 use Rattle.access.specs.declared.ending.Error.{Error}
 use Rattle.access.specs.declared.ending.Error.the-variants.{InvalidState, InvalidArgument, BufferTooLong}
 use Rattle.access.specs.Endings.{failed}
@@ -47,13 +48,13 @@ use Rattle.slave.proofs.FitsKept as slaveFits
 use Rattle.slave_driver.specs.Lent as slaveLent
 use Rattle.images.specs.Numbers.{chipOf}
 use Rattle.ch32_i2c.specs.Left.{left, refusedWith}
-use Rattle.ch32_i2c.specs.Fed.{Entry, Makes}
+use Rattle.ch32_i2c.specs.Fed.{Entry, lastFrom, Makes}
 use Rattle.ch32_i2c.specs.Init as cInit
 use Rattle.ch32_i2c.specs.Transfer.{begunLeft, masterBegin}
 use Rattle.ch32_i2c.specs.InitSlave as cInitSlave
 use Rattle.ch32_i2c.specs.Response as response
 use Rattle.ch32_i2c.specs.Demands.{Call, unknown, ownRefusal, Accepted, timedRefusal, IsMet}
-use Rattle.ch32_i2c.proofs.Carried.{Carries, carried, unread, carries-unread}
+use Rattle.ch32_i2c.proofs.Carried.{Carries, carried, over, shown-over, unread, carries-unread}
 use Rattle.ch32_i2c.proofs.Recorded.{Recorded, recorded}
 use Rattle.ch32_i2c.proofs.MetEnds.{MetNeed, shown-met}
 use Rattle.ch32_i2c.proofs.LeavesLaws.{else}
@@ -85,6 +86,10 @@ pub record Runs (e : Entry) (block bytes : List ℕ) (shown : List ℕ → Shown
   pub makes : (answers : List ℕ) → Makes e block bytes answers (shown answers)
   pub recorded : (answers : List ℕ) → Recorded (shown answers) answers
   pub met : (answers : List ℕ) → IsMet (shown answers .end)
+  -- behind an end the same is shown, and what is left stays
+  pub stays : (answers more : List ℕ) (x : Ending) → shown answers .end ≡ some x → shown (answers ++ more) ≡ shown answers
+  pub over : (answers : List ℕ) (x : Ending) → shown answers .end ≡ some x → (a : ℕ)
+      → lastFrom e (e .begin block bytes) (answers ++ (a ∷ [])) ≡ refusedWith InvalidState (lastFrom e (e .begin block bytes) answers .block) (lastFrom e (e .begin block bytes) answers .read)
 
 -- the same, shown in other words
 runs-as : {e : Entry} {block bytes : List ℕ} (f g : List ℕ → Shown) → ((answers : List ℕ) → f answers ≡ g answers) → Runs e block bytes f → Runs e block bytes g
@@ -93,6 +98,8 @@ runs-as {e} {block} {bytes} f g q r =
       makes = λ answers. subst (λ (s : Shown). Makes e block bytes answers s) (q answers) (r .makes answers);
       recorded = λ answers. subst (λ (s : Shown). Recorded s answers) (q answers) (r .recorded answers);
       met = λ answers. subst (λ (s : Shown). IsMet (s .end)) (q answers) (r .met answers);
+      stays = λ answers more x h. sym (q (answers ++ more)) ∙ r .stays answers more x (ap (λ (s : Shown). s .end) (q answers) ∙ h) ∙ q answers;
+      over = λ answers x h. r .over answers x (ap (λ (s : Shown). s .end) (q answers) ∙ h);
     }
 
 -- ---- transfers
@@ -106,7 +113,7 @@ module _ (c : master.Call) (l : Lent) (accepted : refusal c l ≡ none) where
   call-shown answers = ap (λ (o : Option Error). seenAfter o c l answers) (sym accepted)
 
   module _ (u : Bool) (block bytes : List ℕ) (size : length block ≡ blockSize) (known : u ≡ false) (room : length bytes ≡ l .room) where
-    begin-left : transferEntry c l u .begin block bytes ≡ left (filled (l .written) (owed (shapeOf c l) (start (shapeOf c l)))) (transfer.imageOf c l (start (shapeOf c l))) bytes
+    pub begin-left : transferEntry c l u .begin block bytes ≡ left (filled (l .written) (owed (shapeOf c l) (start (shapeOf c l)))) (transfer.imageOf c l (start (shapeOf c l))) bytes
     unfolding masterBegin begin owed
     begin-left =
         sym (else block u (refusedWith InvalidArgument block bytes) (begunLeft (begin c (lentWith (l .list) (l .written) (length bytes))) block bytes) (refusedWith InvalidState block bytes) size known)
@@ -121,6 +128,8 @@ module _ (c : master.Call) (l : Lent) (accepted : refusal c l ≡ none) where
           makes = λ answers. carried k (start (shapeOf c l)) block bytes (states-fit .begins c l accepted) room b answers;
           recorded = λ answers. recorded (master (shapeOf c l)) (l .written) (start (shapeOf c l)) answers;
           met = λ answers. shown-met (master (shapeOf c l)) (l .written) (transfer.Fit c l) (λ m a g. states-fit .kept c l accepted m a g) (transfer-met (shapeOf c l)) (start (shapeOf c l)) (states-fit .begins c l accepted) answers;
+          stays = λ answers more x h. shown-over (master (shapeOf c l)) (l .written) (start (shapeOf c l)) answers more x h;
+          over = λ answers x h. over k (start (shapeOf c l)) block bytes (states-fit .begins c l accepted) room b answers x h;
         })
 
     pub transfer-runs : Runs (transferEntry c l u) block bytes (callShown c l)
@@ -141,7 +150,7 @@ module _ (chip : ℕ) (x : slave.Kind) (l : SlaveLent) (accepted : sizeOf x l �
   abbrev setting : Setting
   setting = settingOf (chipOf chip) x l
 
-  response-left : responseEntry (chipOf chip) x l chip .begin block bytes ≡ left (filled (slaveCalls.bytesOf x l) (slaveMachine.owed setting (slaveMachine.start x))) (response-carried.imageOf (chipOf chip) x l (slaveMachine.start x)) bytes
+  pub response-left : responseEntry (chipOf chip) x l chip .begin block bytes ≡ left (filled (slaveCalls.bytesOf x l) (slaveMachine.owed setting (slaveMachine.start x))) (response-carried.imageOf (chipOf chip) x l (slaveMachine.start x)) bytes
   unfolding response.slaveBegin slaveSteps.begin slaveMachine.owed
   response-left =
       sym (else block (ltb 3 chip) (refusedWith InvalidArgument block bytes) (response.begunLeft (slaveSteps.begin (chipOf chip) x (slaveLent.lentWith (l .reply) (length bytes))) block bytes) (refusedWith InvalidState block bytes) size known)
@@ -157,6 +166,8 @@ module _ (chip : ℕ) (x : slave.Kind) (l : SlaveLent) (accepted : sizeOf x l �
         makes = λ answers. carried k (slaveMachine.start x) block bytes (slaveFits.states-fit .begins setting) room b answers;
         recorded = λ answers. recorded (slaveMachine.slave setting) (slaveCalls.bytesOf x l) (slaveMachine.start x) answers;
         met = λ answers. shown-met (slaveMachine.slave setting) (slaveCalls.bytesOf x l) (response-carried.Fit (chipOf chip) x l) (λ m a g. slaveFits.states-fit .kept setting m a g) (response-met setting) (slaveMachine.start x) (slaveFits.states-fit .begins setting) answers;
+        stays = λ answers more y h. shown-over (slaveMachine.slave setting) (slaveCalls.bytesOf x l) (slaveMachine.start x) answers more y h;
+        over = λ answers y h. over k (slaveMachine.start x) block bytes (slaveFits.states-fit .begins setting) room b answers y h;
       })
 
   pub response-runs : Runs (responseEntry (chipOf chip) x l chip) block bytes (slaveShown (chipOf chip) x l)
@@ -190,12 +201,12 @@ init-stage-met timingStages.EnableRead s = tt
 init-stage-met timingStages.EnableWrite s = tt
 init-stage-met timingStages.Ended s = tt
 
-init-met : (s : timingState.State) → MetNeed (initMachine.owed s)
+pub init-met : (s : timingState.State) → MetNeed (initMachine.owed s)
 unfolding initMachine.owed
 init-met s = init-stage-met (s .stage) s
 
 module _ (chip input frequency duty : ℕ) (block : List ℕ) (size : length block ≡ blockSize) (known : ltb 3 chip || ltb 1 duty ≡ false) where
-  init-begun : (t : Timing) → timing (chipOf chip) input frequency (cInit.dutyOf duty) ≡ timed.At t
+  pub init-begun : (t : Timing) → timing (chipOf chip) input frequency (cInit.dutyOf duty) ≡ timed.At t
       → cInit.initBegin block chip input frequency duty ≡ left (filled [] (initMachine.owed (initMachine.started (chipOf chip) t))) (initImage (initMachine.started (chipOf chip) t)) []
   unfolding cInit.initBegin initMachine.begin
   init-begun t q =
@@ -209,6 +220,8 @@ module _ (chip input frequency duty : ℕ) (block : List ℕ) (size : length blo
         makes = λ answers. carried (init-carries chip input frequency duty) (initMachine.started (chipOf chip) t) block [] tt refl (init-begun t q) answers;
         recorded = λ answers. recorded initMachine.initMachine [] (initMachine.started (chipOf chip) t) answers;
         met = λ answers. shown-met initMachine.initMachine [] Any (λ s a g. tt) (λ s g. init-met s) (initMachine.started (chipOf chip) t) tt answers;
+        stays = λ answers more x h. shown-over initMachine.initMachine [] (initMachine.started (chipOf chip) t) answers more x h;
+        over = λ answers x h. over (init-carries chip input frequency duty) (initMachine.started (chipOf chip) t) block [] tt refl (init-begun t q) answers x h;
       }
 
   pub init-runs : timedRefusal (timing (chipOf chip) input frequency (cInit.dutyOf duty)) ≡ none → Runs (initEntry chip input frequency duty) block [] (shownTimed chip (timing (chipOf chip) input frequency (cInit.dutyOf duty)))
@@ -227,7 +240,7 @@ init-slave-stage-met initStage.EnableRead s = tt
 init-slave-stage-met initStage.EnableWrite s = tt
 init-slave-stage-met initStage.Ended s = tt
 
-init-slave-met : (s : InitState) → MetNeed (initSlaveMachine.owed s)
+pub init-slave-met : (s : InitState) → MetNeed (initSlaveMachine.owed s)
 unfolding initSlaveMachine.owed
 init-slave-met s = init-slave-stage-met (s .stage) s
 
@@ -240,7 +253,7 @@ module _ (ten address has second general stretching : ℕ) (block : List ℕ) (s
     unfolding initShown
     init-shown answers = ap (λ (o : Option Error). slaveCalls.seenAfter o (shownFrom initSlaveMachine.initMachine [] (initSlaveMachine.started config) answers)) (sym accepted)
 
-    slave-begun : cInitSlave.initSlaveBegin block ten address has second general stretching ≡ left (filled [] (initSlaveMachine.owed (initSlaveMachine.started config))) (initSlaveImage (initSlaveMachine.started config)) []
+    pub slave-begun : cInitSlave.initSlaveBegin block ten address has second general stretching ≡ left (filled [] (initSlaveMachine.owed (initSlaveMachine.started config))) (initSlaveImage (initSlaveMachine.started config)) []
     unfolding cInitSlave.initSlaveBegin initSlaveMachine.begin
     slave-begun =
         sym (else block (cInitSlave.unknownFlags ten has general stretching) (refusedWith InvalidArgument block []) (cInitSlave.begunLeft (initSlaveMachine.begin config) block) (refusedWith InvalidState block []) size known)
@@ -253,4 +266,6 @@ module _ (ten address has second general stretching : ℕ) (block : List ℕ) (s
           makes = λ answers. carried (init-slave-carries ten address has second general stretching) (initSlaveMachine.started config) block [] tt refl slave-begun answers;
           recorded = λ answers. recorded initSlaveMachine.initMachine [] (initSlaveMachine.started config) answers;
           met = λ answers. shown-met initSlaveMachine.initMachine [] Any (λ s a g. tt) (λ s g. init-slave-met s) (initSlaveMachine.started config) tt answers;
+          stays = λ answers more x h. shown-over initSlaveMachine.initMachine [] (initSlaveMachine.started config) answers more x h;
+          over = λ answers x h. over (init-slave-carries ten address has second general stretching) (initSlaveMachine.started config) block [] tt refl slave-begun answers x h;
         })

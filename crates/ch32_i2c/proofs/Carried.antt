@@ -2,10 +2,12 @@
 -- Assumes nothing.
 use mathlib.Core.Path.{_≡_, refl, ap, sym, subst, _∙_}
 use mathlib.Core.Bool.{Bool, true, false, true≢false}
-use mathlib.Core.List.{List, [], _∷_}
+use mathlib.Core.List.{List, [], _∷_, _++_}
+use mathlib.Core.Option.{some}
 use Prim.Native.Nat.{ℕ, suc}
 use native.Mathlib.Omega.{arith}
 use lib.ListN.{length, length-set}
+use Rattle.access.specs.declared.ending.Ending.{Ending}
 use Rattle.access.specs.declared.ending.Error.the-variants.{InvalidState}
 use Rattle.access.specs.declared.need.Need.{Need}
 use Rattle.access.specs.declared.need.Need.the-variants as need
@@ -82,6 +84,25 @@ ended-stored bytes (need.Send p) a rest r e = absurd (true≢false (sym e))
 ended-stored bytes (need.Keep p) a rest r e = absurd (true≢false (sym e))
 ended-stored bytes need.Drop a rest r e = absurd (true≢false (sym e))
 ended-stored bytes (need.End x) a rest r e = refl
+
+-- what is shown of an end, and of what is none
+pub owed-end : (bytes : List ℕ) (n : Need) (x : Ending) → seenOwed bytes n .end ≡ some x → isEnd n ≡ true
+owed-end bytes (need.Read y) x q = let z : _≡_ {A = ℕ} 0 1 = cc in absurd (omega arith)
+owed-end bytes (need.Write y v) x q = let z : _≡_ {A = ℕ} 0 1 = cc in absurd (omega arith)
+owed-end bytes need.Clock x q = let z : _≡_ {A = ℕ} 0 1 = cc in absurd (omega arith)
+owed-end bytes (need.Send p) x q = let z : _≡_ {A = ℕ} 0 1 = cc in absurd (omega arith)
+owed-end bytes (need.Keep p) x q = let z : _≡_ {A = ℕ} 0 1 = cc in absurd (omega arith)
+owed-end bytes need.Drop x q = let z : _≡_ {A = ℕ} 0 1 = cc in absurd (omega arith)
+owed-end bytes (need.End e) x q = refl
+
+answered-end : (bytes : List ℕ) (n : Need) (a : ℕ) (rest : Shown) → isEnd n ≡ false → seenAnswered bytes n a rest .end ≡ rest .end
+answered-end bytes (need.Read x) a rest e = refl
+answered-end bytes (need.Write x v) a rest e = refl
+answered-end bytes need.Clock a rest e = refl
+answered-end bytes (need.Send p) a rest e = refl
+answered-end bytes (need.Keep p) a rest e = refl
+answered-end bytes need.Drop a rest e = refl
+answered-end bytes (need.End x) a rest e = absurd (true≢false e)
 
 -- ---- the machine m, with these bytes lent and so many bytes to read, seen through the entry c
 
@@ -171,6 +192,28 @@ module _ {m : Machine} {bytes : List ℕ} {room : ℕ} {c : Entry} {image : m .S
       go true e h =
           first-still (c .step (image s) r a) answers (leftAt s r) (λ _. k .ended s r a g l e) (subst (λ (x : Left). EndsStill (leftsFrom c x answers)) (sym (k .ended s r a g l e)) (still-ended s r g l e answers))
 
+  -- behind the end a step is refused, and leaves what the last one left
+  ended-left : (s : m .State) (r : List ℕ) → Good s → length r ≡ room → isEnd (m .need s) ≡ true → (answers : List ℕ) → lastFrom c (refusedWith InvalidState (image s) r) answers ≡ refusedWith InvalidState (image s) r
+  ended-left s r g l e [] = refl
+  ended-left s r g l e (a ∷ answers) = ap (λ (h : Left). lastFrom c h answers) (k .ended s r a g l e) ∙ ended-left s r g l e answers
+
+  carried-over : (s : m .State) (r : List ℕ) → Good s → length r ≡ room → (answers : List ℕ) (x : Ending) → shownFrom m bytes s answers .end ≡ some x → (a : ℕ)
+      → lastFrom c (leftAt s r) (answers ++ (a ∷ [])) ≡ refusedWith InvalidState (lastFrom c (leftAt s r) answers .block) (lastFrom c (leftAt s r) answers .read)
+  carried-over s r g l [] x q a = k .ended s r a g l (owed-end bytes (m .need s) x q)
+  carried-over s r g l (b ∷ answers) x q a = go (isEnd (m .need s)) refl (carried-over (m .move s b) (kept (m .need s) b r) (k .stays s b g) (kept-length (m .need s) b r ∙ l) answers x)
+    where
+      go : (t : Bool) → isEnd (m .need s) ≡ t
+          → (shownFrom m bytes (m .move s b) answers .end ≡ some x → (a : ℕ)
+          → lastFrom c (leftAt (m .move s b) (kept (m .need s) b r)) (answers ++ (a ∷ []))
+          ≡ refusedWith InvalidState (lastFrom c (leftAt (m .move s b) (kept (m .need s) b r)) answers .block) (lastFrom c (leftAt (m .move s b) (kept (m .need s) b r)) answers .read))
+          → lastFrom c (c .step (image s) r b) (answers ++ (a ∷ [])) ≡ refusedWith InvalidState (lastFrom c (c .step (image s) r b) answers .block) (lastFrom c (c .step (image s) r b) answers .read)
+      go false e h =
+          subst (λ (y : Left). lastFrom c y (answers ++ (a ∷ [])) ≡ refusedWith InvalidState (lastFrom c y answers .block) (lastFrom c y answers .read)) (sym (k .taken s r b g l e))
+          (h (sym (answered-end bytes (m .need s) b (shownFrom m bytes (m .move s b) answers) e) ∙ q) a)
+      go true e h =
+          subst (λ (y : Left). lastFrom c y (answers ++ (a ∷ [])) ≡ refusedWith InvalidState (lastFrom c y answers .block) (lastFrom c y answers .read)) (sym (k .ended s r b g l e))
+          (ended-left s r g l e (answers ++ (a ∷ [])) ∙ ap (λ (y : Left). refusedWith InvalidState (y .block) (y .read)) (sym (ended-left s r g l e answers)))
+
   -- begin leaves a state's image: then the call makes what the machine shows
   pub carried : (s : m .State) (b r : List ℕ) → Good s → length r ≡ room → c .begin b r ≡ leftAt s r → (answers : List ℕ) → Makes c b r answers (shownFrom m bytes s answers)
   carried s b r g l e answers =
@@ -179,6 +222,46 @@ module _ {m : Machine} {bytes : List ℕ} {room : ℕ} {c : Entry} {image : m .S
         still = subst (λ (h : Left). EndsStill (leftsFrom c h answers)) (sym e) (carried-still s r g l answers);
         read = ap (λ (h : Left). lastFrom c h answers .read) e ∙ carried-read s r g l answers;
       }
+
+  -- and behind its end nothing changes
+  pub over : (s : m .State) (b r : List ℕ) → Good s → length r ≡ room → c .begin b r ≡ leftAt s r → (answers : List ℕ) (x : Ending) → shownFrom m bytes s answers .end ≡ some x → (a : ℕ)
+      → lastFrom c (c .begin b r) (answers ++ (a ∷ [])) ≡ refusedWith InvalidState (lastFrom c (c .begin b r) answers .block) (lastFrom c (c .begin b r) answers .read)
+  over s b r g l e answers x q a =
+      subst (λ (y : Left). lastFrom c y (answers ++ (a ∷ [])) ≡ refusedWith InvalidState (lastFrom c y answers .block) (lastFrom c y answers .read)) (sym e) (carried-over s r g l answers x q a)
+
+-- what is shown of an ended state, whatever the answers; and behind an end
+ended-shown : (m : Machine) (bytes : List ℕ) (s : m .State) (answers more : List ℕ) → isEnd (m .need s) ≡ true → shownFrom m bytes s (answers ++ more) ≡ shownFrom m bytes s answers
+ended-shown m bytes s [] [] e = refl
+ended-shown m bytes s [] (b ∷ more) e = ended-owed bytes (m .need s) b (shownFrom m bytes (m .move s b) more) e
+  where
+    ended-owed : (bytes : List ℕ) (n : Need) (a : ℕ) (rest : Shown) → isEnd n ≡ true → seenAnswered bytes n a rest ≡ seenOwed bytes n
+    ended-owed bytes (need.Read x) a rest e = absurd (true≢false (sym e))
+    ended-owed bytes (need.Write x v) a rest e = absurd (true≢false (sym e))
+    ended-owed bytes need.Clock a rest e = absurd (true≢false (sym e))
+    ended-owed bytes (need.Send p) a rest e = absurd (true≢false (sym e))
+    ended-owed bytes (need.Keep p) a rest e = absurd (true≢false (sym e))
+    ended-owed bytes need.Drop a rest e = absurd (true≢false (sym e))
+    ended-owed bytes (need.End x) a rest e = refl
+ended-shown m bytes s (a ∷ answers) more e = ended-answered bytes (m .need s) a (shownFrom m bytes (m .move s a) (answers ++ more)) (shownFrom m bytes (m .move s a) answers) e
+  where
+    ended-answered : (bytes : List ℕ) (n : Need) (a : ℕ) (x y : Shown) → isEnd n ≡ true → seenAnswered bytes n a x ≡ seenAnswered bytes n a y
+    ended-answered bytes (need.Read r) a x y e = absurd (true≢false (sym e))
+    ended-answered bytes (need.Write r v) a x y e = absurd (true≢false (sym e))
+    ended-answered bytes need.Clock a x y e = absurd (true≢false (sym e))
+    ended-answered bytes (need.Send p) a x y e = absurd (true≢false (sym e))
+    ended-answered bytes (need.Keep p) a x y e = absurd (true≢false (sym e))
+    ended-answered bytes need.Drop a x y e = absurd (true≢false (sym e))
+    ended-answered bytes (need.End z) a x y e = refl
+
+pub shown-over : (m : Machine) (bytes : List ℕ) (s : m .State) (answers more : List ℕ) (x : Ending) → shownFrom m bytes s answers .end ≡ some x → shownFrom m bytes s (answers ++ more) ≡ shownFrom m bytes s answers
+shown-over m bytes s [] more x q = ended-shown m bytes s [] more (owed-end bytes (m .need s) x q)
+shown-over m bytes s (a ∷ answers) more x q = go (isEnd (m .need s)) refl (shown-over m bytes (m .move s a) answers more x)
+  where
+    go : (t : Bool) → isEnd (m .need s) ≡ t
+        → (shownFrom m bytes (m .move s a) answers .end ≡ some x → shownFrom m bytes (m .move s a) (answers ++ more) ≡ shownFrom m bytes (m .move s a) answers)
+        → shownFrom m bytes s (a ∷ (answers ++ more)) ≡ shownFrom m bytes s (a ∷ answers)
+    go true e h = ended-shown m bytes s (a ∷ answers) more e
+    go false e h = ap (seenAnswered bytes (m .need s) a) (h (sym (answered-end bytes (m .need s) a (shownFrom m bytes (m .move s a) answers) e) ∙ q))
 
 -- an entry that lends nothing to read
 abbrev pub unread : Entry → Entry

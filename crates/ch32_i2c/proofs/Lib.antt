@@ -7,6 +7,7 @@ pub mod SlaveLeaves
 pub mod ResponseLeaves
 pub mod Carried
 pub mod Recorded
+pub mod PayloadLaws
 pub mod MetEnds
 pub mod HeldLaws
 pub mod InitCarried
@@ -15,7 +16,10 @@ pub mod TransferMet
 pub mod ResponseCarried
 pub mod ResponseMet
 pub mod CallsRun
+pub mod Begins
+pub mod Goes
 pub mod Stops
+pub mod ReplyEnds
 pub mod Demands
 pub mod Edges
 pub mod Examples

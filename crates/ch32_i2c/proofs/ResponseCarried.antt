@@ -44,7 +44,7 @@ module _ (chip : Chip) (x : Kind) (l : SlaveLent) where
     unfolding fitsLent
     fits-lent m g = both-true (le-leb (sizeOf x l) 65535 accepted) g
 
-    open-at : (m : Move) → Fit m → (b : Bool) → isEnd (owed (settingOf chip x l) m) ≡ b → isOpen (stateAt (settingOf chip x l) m) (sizeOf x l) ≡ not b
+    pub open-at : (m : Move) → Fit m → (b : Bool) → isEnd (owed (settingOf chip x l) m) ≡ b → isOpen (stateAt (settingOf chip x l) m) (sizeOf x l) ≡ not b
     unfolding owed
     open-at m g b e = ap (λ (t : Bool). t && not (isEnd (owed (settingOf chip x l) m))) (fits-lent m g) ∙ ap not e
 

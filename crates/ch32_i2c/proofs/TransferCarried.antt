@@ -44,7 +44,7 @@ module _ (c : Call) (l : Lent) where
     unfolding fitsLent refusal
     fits-lent m g = both-true (ap isNone accepted) g
 
-    open-at : (m : Move) → Fit m → (b : Bool) → isEnd (owed (shapeOf c l) m) ≡ b → isOpen (stateAt c m) l ≡ not b
+    pub open-at : (m : Move) → Fit m → (b : Bool) → isEnd (owed (shapeOf c l) m) ≡ b → isOpen (stateAt c m) l ≡ not b
     unfolding owed
     open-at m g b e = ap (λ (t : Bool). t && not (isEnd (owed (shapeOf c l) m))) (fits-lent m g) ∙ ap not e
 

@@ -1,24 +1,28 @@
 -- The three demands, said of what C programs call: of blocks, lent bytes and what the eighteen functions hand out. Each exported function's
 -- contract says that it returns the number of what its definition hands out, and leaves the definition's bytes (specs/Left.antt).
 use mathlib.Core.Path.{_≡_}
-use mathlib.Core.Bool.{Bool, true, false, not, _||_}
-use mathlib.Core.List.{List, []}
+use mathlib.Core.Bool.{Bool, true, false, not, _&&_, _||_}
+use mathlib.Core.List.{List, [], _∷_, _++_, map}
 use mathlib.Core.Option.{Option, none, some}
-use Prim.Native.Nat.{ℕ, _<_, _≤_}
+use Prim.Native.Nat.{ℕ, suc, _<_, _≤_}
 use lib.Dec.{eqb, ltb}
 use lib.ListN.{length, take}
 use Rattle.registers.specs.declared.chip.Chip.{Chip}
 use Rattle.access.specs.declared.ending.Ending.{Ending}
 use Rattle.access.specs.declared.ending.Ending.the-variants.{Done, Failed}
+use Rattle.access.specs.declared.ending.Failure.{Failure}
 use Rattle.access.specs.declared.ending.Error.{Error}
 use Rattle.access.specs.declared.ending.Error.the-variants.{InvalidState, InvalidArgument}
 use Rattle.access.specs.declared.next.Next.{Next}
+use Rattle.access.specs.declared.next.Next.the-variants as next
 use Rattle.access.specs.Endings.{returned, failed, isMet}
 use Rattle.access.specs.Machine.{isEnd}
 use Rattle.access.specs.Numbers.{nextNumber, HoldsWords}
-use Rattle.access.specs.Record.{Shown, noMore, DifferInPayload, Same, EndsAlike}
+use Rattle.access.specs.Record.{Shown, noMore, Same, EndsAlike}
 use Rattle.alike.specs.Like.{forgetting}
 use Rattle.errors.specs.AsTheRust.{asTheRust}
+use Rattle.operations.specs.Operations.{operationsOf}
+use Rattle.operations.specs.Runs.{isEmpty}
 use Rattle.block.specs.Bytes32.{blockSize, Bytes}
 use Rattle.timing.specs.declared.settings.Timed.{Timed}
 use Rattle.timing.specs.declared.settings.Timed.the-variants as timed
@@ -28,7 +32,8 @@ use Rattle.timing.specs.Machine as initMachine
 use Rattle.master.specs.declared.call.Call as transfer
 use Rattle.master.specs.declared.call.Kind.the-variants as kind
 use Rattle.master.specs.Steps as master
-use Rattle.master.specs.Calls.{Lent, lentWith, refuse, refusal, rustWith, oursWith, spansBy, NoAddedCause}
+use Rattle.master.specs.Joined.{Joined, JW, JR, joined}
+use Rattle.master.specs.Calls.{Lent, lentWith, cut, refuse, refusal, rustWith, oursWith, spansBy, NoAddedCause}
 use Rattle.master.specs.Claims.{RunsJoin}
 use Rattle.slave.specs.declared.state.Kind as response
 use Rattle.slave.specs.declared.state.Kind.the-variants.{Listen, RespondToWrite, RespondToRead}
@@ -36,7 +41,8 @@ use Rattle.slave.specs.Init.{initRefusal}
 use Rattle.slave.specs.Init as initSlaveMachine
 use Rattle.slave.specs.Calls.{SlaveLent, sizeOf, sizeRefusal, rustInit, rustSlave, oursSlave}
 use Rattle.slave.specs.Steps as slave
-use Rattle.slave.specs.Claims.{Any}
+use Rattle.slave.specs.Rust.{send-status}
+use Rattle.slave.specs.Numbers.{statusNumber}
 use Rattle.slave_driver.specs.Lent as slaveLent
 use Rattle.images.specs.declared.init_image.InitFound.{InitFound}
 use Rattle.images.specs.declared.init_image.InitFound.the-variants as initFound
@@ -48,8 +54,8 @@ use Rattle.images.specs.declared.slave_image.SlaveFound.{SlaveFound}
 use Rattle.images.specs.declared.slave_image.SlaveFound.the-variants as slaveFound
 use Rattle.images.specs.Numbers.{chipOf, transactionEntry, writeReadEntry, writeEntry, readEntry, listenEntry, respondToWriteEntry, respondToReadEntry}
 use Rattle.images.specs.MasterImage.{frameOptionsOf}
-use Rattle.ch32_i2c.specs.Left.{refusedWith}
-use Rattle.ch32_i2c.specs.Fed.{Entry, lefts, handedOut, Makes, Seen, StruckSeen, recordOf, endIn, struckBy}
+use Rattle.ch32_i2c.specs.Left.{Left, refusedWith}
+use Rattle.ch32_i2c.specs.Fed.{Entry, lefts, lastFrom, handedOut, stored, Makes, Begins, Seen, recordOf, endIn, recordIn, StruckSeen, struckBy, struckIn, DifferAtPayload, payloadIn}
 use Rattle.ch32_i2c.specs.Init.{dutyOf, initBegin, initHeld, initStep}
 use Rattle.ch32_i2c.specs.Transfer.{callOf, masterHeld, transactionBegin, transactionStep, writeReadBegin, writeReadStep, writeBegin, writeStep, readBegin, readStep}
 use Rattle.ch32_i2c.specs.InitSlave.{configOf, unknownFlags, initSlaveBegin, initSlaveHeld, initSlaveStep}
@@ -179,6 +185,31 @@ NoneAdded (listen chip) room = Unit {0}
 NoneAdded (respondToWrite chip) room = room ≤ 65535
 NoneAdded (respondToRead chip reply) room = length reply ≤ 65535
 
+-- our text with turns enough for these answers; more make no difference to an accepted call (`enough` of demand 2)
+abbrev pub oursAfter : Call → ℕ → List ℕ → Shown
+oursAfter c room answers = ours (suc (length answers)) c room answers
+
+-- ---- what is seen of a call
+
+-- document 01's record after begin and a step with each of these answers, its end, and what it leaves
+abbrev pub recordAfter : Call → List ℕ → List ℕ → List ℕ → List Seen
+recordAfter c block bytes answers = recordOf (handedOut (lefts (entryOf c) block bytes answers)) answers
+
+abbrev pub endAfter : Call → List ℕ → List ℕ → List ℕ → Option Ending
+endAfter c block bytes answers = endIn (handedOut (lefts (entryOf c) block bytes answers))
+
+abbrev pub leftAfter : Call → List ℕ → List ℕ → List ℕ → Left
+leftAfter c block bytes answers = lastFrom (entryOf c) (entryOf c .begin block bytes) answers
+
+-- the record with the payload struck out, by layer 1's accesses
+abbrev pub struckAfter : Call → List ℕ → List ℕ → List ℕ → List StruckSeen
+struckAfter c block bytes answers = struckBy (oursAfter c (length bytes) answers .events) (recordAfter c block bytes answers)
+
+-- record and end are those of a text, the owed access and the answers included
+pub record Records (c : Call) (block bytes answers : List ℕ) (s : Shown) : Type 0 where
+  pub record-is : recordAfter c block bytes answers ≡ recordIn s
+  pub end-is : endAfter c block bytes answers ≡ s .end
+
 -- ---- demand 1: one next step, and bad calls refused
 
 -- whether a step is taken: the block is the image of a state of the entry's call that fits what is lent, and has not ended
@@ -209,6 +240,25 @@ takes (listen chip) block bytes = takesResponse (slaveHeld listenEntry block) (s
 takes (respondToWrite chip) block bytes = takesResponse (slaveHeld respondToWriteEntry block) (slaveLent.lentWith [] (length bytes))
 takes (respondToRead chip reply) block bytes = takesResponse (slaveHeld respondToReadEntry block) (slaveLent.lentWith reply 0)
 
+-- accepted calls that have nothing to do: a transaction of no operations, and write frames 3 and 5 of no bytes, in which the Rust asks for
+-- neither START nor STOP
+abbrev pub nothingToDo : Call → Bool
+nothingToDo (init chip input frequency duty) = false
+nothingToDo (transaction chip address list written) = isEmpty list
+nothingToDo (writeRead chip address written) = false
+nothingToDo (write chip address option written) = isEmpty written && (eqb option 3 || eqb option 5)
+nothingToDo (read chip address option) = false
+nothingToDo (initSlave ten address has second general stretching) = false
+nothingToDo (listen chip) = false
+nothingToDo (respondToWrite chip) = false
+nothingToDo (respondToRead chip reply) = false
+
+-- behind the end: record, end and all lent bytes stay, and a step answers 15
+pub record Over (c : Call) (block bytes answers more : List ℕ) : Type 0 where
+  pub record-stays : recordAfter c block bytes (answers ++ more) ≡ recordAfter c block bytes answers
+  pub end-stays : endAfter c block bytes (answers ++ more) ≡ endAfter c block bytes answers
+  pub left-stays : (a : ℕ) → leftAfter c block bytes (answers ++ (a ∷ [])) ≡ refusedWith InvalidState (leftAfter c block bytes answers .block) (leftAfter c block bytes answers .read)
+
 -- an end that is none of the refusals: 0, or an error that the hardware gave, 1 to 6
 abbrev pub IsMet : Option Ending → Type 0
 IsMet none = Unit {0}
@@ -220,10 +270,16 @@ pub record Demand1 : Type 0 where
   pub tells : (m n : Next) → HoldsWords m → HoldsWords n → nextNumber m ≡ nextNumber n → m ≡ n
   -- begin refuses with the first cause, and then every lent byte is as before
   pub refuses : (c : Call) (block bytes : List ℕ) → Reads c bytes → (e : Error) → refusalOf c (length block) (length bytes) ≡ some e → entryOf c .begin block bytes ≡ refusedWith e block bytes
+  -- begin of a call with no cause hands out an access, or is done where there is nothing to do, and leaves a block that a step takes, or an ended one
+  pub accepts : (c : Call) (block bytes : List ℕ) → Reads c bytes → Accepted c block bytes → Begins (entryOf c) (takes c) (nothingToDo c) block bytes
+  -- a step on a block that is taken does not answer 15
+  pub goes : (c : Call) (block bytes : List ℕ) → takes c block bytes ≡ true → (a : ℕ) → (entryOf c .step block bytes a .next ≡ next.End (failed InvalidState)) → ⊥
   -- a step on any other block, or lent what does not fit, is refused with 15, and every lent byte is as before
   pub stops : (c : Call) (block bytes : List ℕ) → Reads c bytes → Bytes block → takes c block bytes ≡ false → (a : ℕ) → entryOf c .step block bytes a ≡ refusedWith InvalidState block bytes
   -- an accepted call ends with 0 or 1 to 6 alone, so it is refused at no step before its end
-  pub ends : (c : Call) (block bytes : List ℕ) → Reads c bytes → Accepted c block bytes → (answers : List ℕ) → IsMet (endIn (handedOut (lefts (entryOf c) block bytes answers)))
+  pub ends : (c : Call) (block bytes : List ℕ) → Reads c bytes → Accepted c block bytes → (answers : List ℕ) → IsMet (endAfter c block bytes answers)
+  -- a step after the end answers 15; record and end stay
+  pub over : (c : Call) (block bytes : List ℕ) → Reads c bytes → Accepted c block bytes → (answers more : List ℕ) (e : Ending) → endAfter c block bytes answers ≡ some e → Over c block bytes answers more
 
 -- ---- demand 2: the Rust's accesses
 
@@ -231,8 +287,16 @@ pub record Demand2 : Type 0 where
   -- an accepted call makes the accesses and the end of our text, and reads the same bytes, for every list of answers
   pub same : (c : Call) (block bytes : List ℕ) → Reads c bytes → Accepted c block bytes → (turns : ℕ) (answers : List ℕ) → length answers < turns
       → Makes (entryOf c) block bytes answers (ours turns c (length bytes) answers)
+  -- so its record after any list of answers IS our text's, and so is its end
+  pub records : (c : Call) (block bytes : List ℕ) → Reads c bytes → Accepted c block bytes → (turns : ℕ) (answers : List ℕ) → length answers < turns
+      → Records c block bytes answers (ours turns c (length bytes) answers)
+  -- more turns than answers make no difference
+  pub enough : (c : Call) (block bytes : List ℕ) → Accepted c block bytes → (turns : ℕ) (answers : List ℕ) → length answers < turns → ours turns c (length bytes) answers ≡ oursAfter c (length bytes) answers
   -- for every list of answers the Rust's accesses and bytes are those of our text, and its end is ours with what it lacks forgotten
   pub as-the-rust : (c : Call) (room turns : ℕ) (answers : List ℕ) → rust turns c room answers ≡ forgetting (endAsTheRust c) (ours turns c room answers)
+  -- so the record and the bytes read are the Rust's
+  pub the-rust's : (c : Call) (block bytes : List ℕ) → Reads c bytes → Accepted c block bytes → (turns : ℕ) (answers : List ℕ) → length answers < turns
+      → (recordAfter c block bytes answers ≡ recordIn (rust turns c (length bytes) answers)) × (leftAfter c block bytes answers .read ≡ stored (rust turns c (length bytes) answers .arrivals) bytes)
   -- nothing is forgotten of an end that no error check decided
   pub others : (c : Call) (e : Error) → endAsTheRust c (failed e) ≡ failed e
   pub returns : (c : Call) (v : ℕ) → endAsTheRust c (returned v) ≡ returned v
@@ -244,22 +308,26 @@ pub record Demand2 : Type 0 where
 
 -- ---- demand 3: no payload in the record
 
--- document 01's record of a call, and its end
-abbrev pub recordAfter : Call → List ℕ → List ℕ → List ℕ → List Seen
-recordAfter c block bytes answers = recordOf (handedOut (lefts (entryOf c) block bytes answers)) answers
-
-abbrev pub endAfter : Call → List ℕ → List ℕ → List ℕ → Option Ending
-endAfter c block bytes answers = endIn (handedOut (lefts (entryOf c) block bytes answers))
-
--- the record with the payload struck out, by layer 1's accesses
-abbrev pub struckAfter : ℕ → Call → List ℕ → List ℕ → List ℕ → List StruckSeen
-struckAfter turns c block bytes answers = struckBy (ours turns c (length bytes) answers .events) (recordAfter c block bytes answers)
+-- record, struck and unstruck, and end are those of demand 2. Both records are equally long, so that no access could hide behind the end of
+-- layer 1's
+pub record OfDemand2 (c : Call) (block bytes answers : List ℕ) : Type 0 where
+  pub as-long : length (recordAfter c block bytes answers) ≡ length (oursAfter c (length bytes) answers .events)
+  pub struck : struckAfter c block bytes answers ≡ struckIn (oursAfter c (length bytes) answers)
+  pub unstruck : Records c block bytes answers (oursAfter c (length bytes) answers)
 
 -- two calls, whatever their blocks and the bytes to read into were before: after begin and after each step struck records are equal, and
--- ends alike. (That records and ends are layer 1's, unstruck as well, is demand 2.)
-pub record SeenAlike (Alike : Ending → Ending → Type 0) (turns : ℕ) (c₁ c₂ : Call) (b₁ r₁ b₂ r₂ xs ys : List ℕ) : Type 0 where
-  pub records : (i : ℕ) → struckAfter turns c₁ b₁ r₁ (take i xs) ≡ struckAfter turns c₂ b₂ r₂ (take i ys)
+-- ends alike; and both calls' are those of demand 2
+pub record SeenAlike (Alike : Ending → Ending → Type 0) (c₁ c₂ : Call) (b₁ r₁ b₂ r₂ xs ys : List ℕ) : Type 0 where
+  pub records : (i : ℕ) → struckAfter c₁ b₁ r₁ (take i xs) ≡ struckAfter c₂ b₂ r₂ (take i ys)
   pub ends : (i : ℕ) → EndsAlike Alike (endAfter c₁ b₁ r₁ (take i xs)) (endAfter c₂ b₂ r₂ (take i ys))
+  pub first : (i : ℕ) → OfDemand2 c₁ b₁ r₁ (take i xs)
+  pub second : (i : ℕ) → OfDemand2 c₂ b₂ r₂ (take i ys)
+
+-- the ends of two replies of these lengths: both fail alike, or both are done, where one number of bytes sent and its length give each the
+-- bytes left over
+pub data RepliesEnd (n m : ℕ) : Ending → Ending → Type 0 where
+  both-failed : (f : Failure) → RepliesEnd n m (Failed f) (Failed f)
+  both-done : (sent : ℕ) → RepliesEnd n m (returned (statusNumber (send-status n sent))) (returned (statusNumber (send-status m sent)))
 
 -- two transfers of one kind, chip and address (a transaction, a write-read, or a frame with its option) whose runs agree in direction and
 -- total length
@@ -271,34 +339,47 @@ pub data SameRuns : Call → ℕ → Call → ℕ → Type 0 where
   writes : {chip address option : ℕ} {written₁ written₂ : List ℕ} {n m : ℕ} → length written₁ ≡ length written₂ → SameRuns (write chip address option written₁) n (write chip address option written₂) m
   reads : {chip address option : ℕ} {n : ℕ} → SameRuns (read chip address option) n (read chip address option) n
 
--- the bytes that a transfer is lent to write
-abbrev pub writtenBy : Call → List ℕ
-writtenBy (init chip input frequency duty) = []
-writtenBy (transaction chip address list written) = written
-writtenBy (writeRead chip address written) = written
-writtenBy (write chip address option written) = written
-writtenBy (read chip address option) = []
-writtenBy (initSlave ten address has second general stretching) = []
-writtenBy (listen chip) = []
-writtenBy (respondToWrite chip) = []
-writtenBy (respondToRead chip reply) = reply
+-- each run's written bytes, joined
+abbrev pub bytesOfRun : Joined → List ℕ
+bytesOfRun (JW bytes) = bytes
+bytesOfRun (JR n) = []
+
+abbrev pub writtenRuns : Call → List (List ℕ)
+writtenRuns (init chip input frequency duty) = []
+writtenRuns (transaction chip address list written) = map bytesOfRun (joined (cut (operationsOf list) written))
+writtenRuns (writeRead chip address written) = written ∷ [] ∷ []
+writtenRuns (write chip address option written) = written ∷ []
+writtenRuns (read chip address option) = [] ∷ []
+writtenRuns (initSlave ten address has second general stretching) = []
+writtenRuns (listen chip) = []
+writtenRuns (respondToWrite chip) = []
+writtenRuns (respondToRead chip reply) = []
+
+-- payloads agree: what each run writes, and the answers at payload reads
+pub record PayloadsAgree (c₁ c₂ : Call) (b₁ r₁ b₂ r₂ xs ys : List ℕ) : Type 0 where
+  pub written : writtenRuns c₁ ≡ writtenRuns c₂
+  pub answered : payloadIn (recordAfter c₁ b₁ r₁ xs) ≡ payloadIn (recordAfter c₂ b₂ r₂ ys)
+
+-- unstruck records are equal, and ends too, after begin and after each step
+pub record SeenSame (c₁ c₂ : Call) (b₁ r₁ b₂ r₂ xs ys : List ℕ) : Type 0 where
+  pub records : (i : ℕ) → recordAfter c₁ b₁ r₁ (take i xs) ≡ recordAfter c₂ b₂ r₂ (take i ys)
+  pub ends : (i : ℕ) → endAfter c₁ b₁ r₁ (take i xs) ≡ endAfter c₂ b₂ r₂ (take i ys)
 
 pub record Demand3 : Type 0 where
   -- transfers; answers that differ only where the first call owes a payload read
   pub transfers : (c₁ c₂ : Call) (b₁ r₁ b₂ r₂ : List ℕ) → SameRuns c₁ (length r₁) c₂ (length r₂) → Reads c₁ r₁ → Reads c₂ r₂ → Accepted c₁ b₁ r₁ → Accepted c₂ b₂ r₂
-      → (turns : ℕ) (xs ys : List ℕ) → length xs < turns → length ys < turns → DifferInPayload (ours turns c₁ (length r₁) xs .events) xs ys
-      → SeenAlike Same turns c₁ c₂ b₁ r₁ b₂ r₂ xs ys
-  -- the payloads agree too, written and answered: unstruck records are equal
+      → (xs ys : List ℕ) → DifferAtPayload (recordAfter c₁ b₁ r₁ xs) xs ys → SeenAlike Same c₁ c₂ b₁ r₁ b₂ r₂ xs ys
+  -- the payloads agree too: unstruck records are equal
   pub transfers-whole : (c₁ c₂ : Call) (b₁ r₁ b₂ r₂ : List ℕ) → SameRuns c₁ (length r₁) c₂ (length r₂) → Reads c₁ r₁ → Reads c₂ r₂ → Accepted c₁ b₁ r₁ → Accepted c₂ b₂ r₂
-      → writtenBy c₁ ≡ writtenBy c₂ → (answers : List ℕ) → recordAfter c₁ b₁ r₁ answers ≡ recordAfter c₂ b₂ r₂ answers
+      → (xs ys : List ℕ) → DifferAtPayload (recordAfter c₁ b₁ r₁ xs) xs ys → PayloadsAgree c₁ c₂ b₁ r₁ b₂ r₂ xs ys → SeenSame c₁ c₂ b₁ r₁ b₂ r₂ xs ys
   -- receives of one chip and buffer length
   pub receives : (chip : ℕ) (b₁ r₁ b₂ r₂ : List ℕ) → length r₁ ≡ length r₂ → Accepted (respondToWrite chip) b₁ r₁ → Accepted (respondToWrite chip) b₂ r₂
-      → (turns : ℕ) (xs ys : List ℕ) → length xs < turns → length ys < turns → DifferInPayload (ours turns (respondToWrite chip) (length r₁) xs .events) xs ys
-      → SeenAlike Same turns (respondToWrite chip) (respondToWrite chip) b₁ r₁ b₂ r₂ xs ys
+      → (xs ys : List ℕ) → DifferAtPayload (recordAfter (respondToWrite chip) b₁ r₁ xs) xs ys → SeenAlike Same (respondToWrite chip) (respondToWrite chip) b₁ r₁ b₂ r₂ xs ys
   pub receives-whole : (chip : ℕ) (b₁ r₁ b₂ r₂ : List ℕ) → length r₁ ≡ length r₂ → Accepted (respondToWrite chip) b₁ r₁ → Accepted (respondToWrite chip) b₂ r₂
-      → (answers : List ℕ) → recordAfter (respondToWrite chip) b₁ r₁ answers ≡ recordAfter (respondToWrite chip) b₂ r₂ answers
+      → (xs ys : List ℕ) → DifferAtPayload (recordAfter (respondToWrite chip) b₁ r₁ xs) xs ys → PayloadsAgree (respondToWrite chip) (respondToWrite chip) b₁ r₁ b₂ r₂ xs ys
+      → SeenSame (respondToWrite chip) (respondToWrite chip) b₁ r₁ b₂ r₂ xs ys
   -- replies at one chip, whatever their bytes and lengths, and the same answers; at equal lengths the ends too
-  pub replies : (chip : ℕ) (reply₁ reply₂ b₁ b₂ : List ℕ) → Accepted (respondToRead chip reply₁) b₁ [] → Accepted (respondToRead chip reply₂) b₂ [] → (turns : ℕ) (answers : List ℕ)
-      → length answers < turns → SeenAlike Any turns (respondToRead chip reply₁) (respondToRead chip reply₂) b₁ [] b₂ [] answers answers
+  pub replies : (chip : ℕ) (reply₁ reply₂ b₁ b₂ : List ℕ) → Accepted (respondToRead chip reply₁) b₁ [] → Accepted (respondToRead chip reply₂) b₂ [] → (answers : List ℕ)
+      → SeenAlike (RepliesEnd (length reply₁) (length reply₂)) (respondToRead chip reply₁) (respondToRead chip reply₂) b₁ [] b₂ [] answers answers
   pub replies-of-one-length : (chip : ℕ) (reply₁ reply₂ b₁ b₂ : List ℕ) → length reply₁ ≡ length reply₂ → Accepted (respondToRead chip reply₁) b₁ [] → Accepted (respondToRead chip reply₂) b₂ []
-      → (turns : ℕ) (answers : List ℕ) → length answers < turns → SeenAlike Same turns (respondToRead chip reply₁) (respondToRead chip reply₂) b₁ [] b₂ [] answers answers
+      → (answers : List ℕ) → SeenAlike Same (respondToRead chip reply₁) (respondToRead chip reply₂) b₁ [] b₂ [] answers answers
