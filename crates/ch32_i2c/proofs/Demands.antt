@@ -63,7 +63,7 @@ use Rattle.ch32_i2c.specs.Demands.{Call, init, transaction, writeRead, w
 use Rattle.ch32_i2c.proofs.Recorded.{record-is, end-is, struck-same}
 use Rattle.ch32_i2c.proofs.PayloadLaws.{differ-same, Answered, answered, answers-same}
 use Rattle.ch32_i2c.proofs.CallsRun.{parts, Runs, begin-left, response-left, transfer-runs, write-runs, response-runs, unread-runs, init-runs, init-slave-runs, shownTimed, small}
-use Rattle.ch32_i2c.proofs.ReplyEnds.{reply-ends}
+use Rattle.ch32_i2c.proofs.SlaveEnds.{reply-ends, reply-end, listen-ends, tells-command, tells-status, tells-count}
 use Rattle.ch32_i2c.proofs.Begins.{transaction-starts, write-read-starts, frame-starts, read-starts, transfer-begins, response-begins, init-begins, init-slave-begins}
 use Rattle.ch32_i2c.proofs.Goes.{Is15, init-goes, master-goes, init-slave-goes, slave-goes}
 use Rattle.ch32_i2c.proofs.Stops.{init-stops, master-stops, init-slave-stops, slave-stops}
@@ -412,6 +412,15 @@ pub demand-1 : Demand1
 demand-1 =
     record {
       tells = number-injective;
+      tells-command = tells-command;
+      tells-status = tells-status;
+      tells-count = tells-count;
+      commanded =
+          λ chip block a answers e q.
+          listen-ends (chipOf chip) (slaveLent.lentWith [] 0) (suc (length answers)) answers e (sym (seen-ours (listen chip) block [] refl a (suc (length answers)) answers (omega arith) .end-is) ∙ q);
+      replied =
+          λ chip reply block a answers e q.
+          reply-end (chipOf chip) reply (suc (length answers)) answers e (sym (seen-ours (respondToRead chip reply) block [] refl a (suc (length answers)) answers (omega arith) .end-is) ∙ q);
       refuses = refuses;
       accepts = begins;
       goes = goes;

@@ -19,7 +19,8 @@ pub mod CallsRun
 pub mod Begins
 pub mod Goes
 pub mod Stops
-pub mod ReplyEnds
+pub mod Paired
+pub mod SlaveEnds
 pub mod Demands
 pub mod Edges
 pub mod Examples

@@ -35,6 +35,9 @@ use Rattle.master.specs.Steps as master
 use Rattle.master.specs.Joined.{Joined, JW, JR, joined}
 use Rattle.master.specs.Calls.{Lent, lentWith, cut, refuse, refusal, rustWith, oursWith, spansBy, NoAddedCause}
 use Rattle.master.specs.Claims.{RunsJoin}
+use Rattle.slave.specs.declared.config.SlaveAddress.{SlaveAddress}
+use Rattle.slave.specs.declared.config.SlaveAddress.the-variants.{SevenBit, TenBit}
+use Rattle.slave.specs.declared.command.SlaveCommand.{SlaveCommand}
 use Rattle.slave.specs.declared.state.Kind as response
 use Rattle.slave.specs.declared.state.Kind.the-variants.{Listen, RespondToWrite, RespondToRead}
 use Rattle.slave.specs.Init.{initRefusal}
@@ -42,7 +45,7 @@ use Rattle.slave.specs.Init as initSlaveMachine
 use Rattle.slave.specs.Calls.{SlaveLent, sizeOf, sizeRefusal, rustInit, rustSlave, oursSlave}
 use Rattle.slave.specs.Steps as slave
 use Rattle.slave.specs.Rust.{send-status}
-use Rattle.slave.specs.Numbers.{statusNumber}
+use Rattle.slave.specs.Numbers.{commandNumber, statusNumber}
 use Rattle.slave_driver.specs.Lent as slaveLent
 use Rattle.images.specs.declared.init_image.InitFound.{InitFound}
 use Rattle.images.specs.declared.init_image.InitFound.the-variants as initFound
@@ -265,9 +268,30 @@ IsMet none = Unit {0}
 IsMet (some (Done o)) = Unit {0}
 IsMet (some (Failed f)) = isMet (f .error) ≡ true
 
+-- a slave's address in its seven or ten bits
+abbrev pub InBits : SlaveAddress → Type 0
+InBits (SevenBit a) = a < 128
+InBits (TenBit a) = a < 1024
+
+-- what a listen and a reply can be done with: a command whose address is in its bits; the status of a number of bytes sent
+pub data Commanded : Ending → Type 0 where
+  with-command : (c : SlaveCommand) → InBits (c .address) → Commanded (returned (commandNumber c))
+  without-command : (f : Failure) → Commanded (Failed f)
+
+pub data Replied (size : ℕ) : Ending → Type 0 where
+  with-status : (sent : ℕ) → Replied size (returned (statusNumber (send-status size sent)))
+  without-status : (f : Failure) → Replied size (Failed f)
+
 pub record Demand1 : Type 0 where
   -- a returned number is that of exactly one access or end (every exported contract says that what is handed out holds 16-bit words)
   pub tells : (m n : Next) → HoldsWords m → HoldsWords n → nextNumber m ≡ nextNumber n → m ≡ n
+  -- so are what slave calls are done with: commands by kind, by seven or ten bits and by address; a reply's statuses; counts
+  pub tells-command : (c d : SlaveCommand) → InBits (c .address) → InBits (d .address) → commandNumber c ≡ commandNumber d → c ≡ d
+  pub tells-status : (size₁ sent₁ size₂ sent₂ : ℕ) → statusNumber (send-status size₁ sent₁) ≡ statusNumber (send-status size₂ sent₂) → send-status size₁ sent₁ ≡ send-status size₂ sent₂
+  pub tells-count : (m n : ℕ) → nextNumber (next.End (returned m)) ≡ nextNumber (next.End (returned n)) → m ≡ n
+  -- and they end with no others
+  pub commanded : (chip : ℕ) (block : List ℕ) → Accepted (listen chip) block [] → (answers : List ℕ) (e : Ending) → endAfter (listen chip) block [] answers ≡ some e → Commanded e
+  pub replied : (chip : ℕ) (reply block : List ℕ) → Accepted (respondToRead chip reply) block [] → (answers : List ℕ) (e : Ending) → endAfter (respondToRead chip reply) block [] answers ≡ some e → Replied (length reply) e
   -- begin refuses with the first cause, and then every lent byte is as before
   pub refuses : (c : Call) (block bytes : List ℕ) → Reads c bytes → (e : Error) → refusalOf c (length block) (length bytes) ≡ some e → entryOf c .begin block bytes ≡ refusedWith e block bytes
   -- begin of a call with no cause hands out an access, or is done where there is nothing to do, and leaves a block that a step takes, or an ended one
