@@ -9,10 +9,10 @@ use native.Mathlib.Omega.{arith}
 use lib.Dec.{eqb, ltb}
 use lib.ListN.{length, take, length-map}
 use lib.Seq.{take-all}
-use borrow.Author.Tests.{ltb-false}
+use borrow.Author.Tests.{ltb-false, le-ltb}
 use Rattle.access.specs.declared.ending.Ending.{Ending}
 use Rattle.access.specs.declared.ending.Error.{Error}
-use Rattle.access.specs.declared.ending.Error.the-variants.{InvalidState, InvalidArgument}
+use Rattle.access.specs.declared.ending.Error.the-variants.{InvalidState, InvalidArgument, InvalidAddress, BufferTooLong}
 use Rattle.access.specs.Endings.{returned, failed}
 use Rattle.access.specs.Record.{Shown, noMore, DifferInPayload, Same, SameStruck, EndsAlike, struck}
 use Rattle.access.specs.Machine.{shownFrom}
@@ -59,13 +59,14 @@ use Rattle.ch32_i2c.specs.Transfer.{callOf, masterBegin}
 use Rattle.ch32_i2c.specs.Transfer as cTransfer
 use Rattle.ch32_i2c.specs.InitSlave as cInitSlave
 use Rattle.ch32_i2c.specs.Response as cResponse
-use Rattle.ch32_i2c.specs.Demands.{Call, init, transaction, writeRead, write, read, initSlave, listen, respondToWrite, respondToRead, entryOf, Reads, unknown, ownRefusal, refusalOf, Accepted, timedRefusal, rust, ours, endAsTheRust, timedShown, NoneAdded, IsMet, takes, nothingToDo, Over, Demand1, Demand2, Demand3, SeenAlike, SameRuns, transactions, writeReads, writes, reads, bytesOfRun, writtenRuns, oursAfter, recordAfter, endAfter, Records, OfDemand2, RepliesEnd, SeenSame}
+use Rattle.ch32_i2c.specs.Demands.{Call, init, transaction, writeRead, write, read, initSlave, listen, respondToWrite, respondToRead, entryOf, Reads, unknown, ownRefusal, refusalOf, Accepted, timedRefusal, rust, ours, endAsTheRust, timedShown, theRusts, NoneAdded, IsMet, takes, nothingToDo, Over, Demand1, Demand2, Demand3, SeenAlike, SameRuns, transactions, writeReads, writes, reads, bytesOfRun, writtenRuns, oursAfter, recordAfter, endAfter, Records, OfDemand2, RepliesEnd, SeenSame}
 use Rattle.ch32_i2c.proofs.Recorded.{record-is, end-is, struck-same}
 use Rattle.ch32_i2c.proofs.PayloadLaws.{differ-same, Answered, answered, answers-same}
 use Rattle.ch32_i2c.proofs.CallsRun.{parts, Runs, begin-left, response-left, transfer-runs, write-runs, response-runs, unread-runs, init-runs, init-slave-runs, shownTimed, small}
 use Rattle.ch32_i2c.proofs.SlaveEnds.{reply-ends, reply-end, listen-ends, tells-command, tells-status, tells-count}
 use Rattle.ch32_i2c.proofs.Begins.{transaction-starts, write-read-starts, frame-starts, read-starts, transfer-begins, response-begins, init-begins, init-slave-begins}
 use Rattle.ch32_i2c.proofs.Goes.{Is15, init-goes, master-goes, init-slave-goes, slave-goes}
+use Rattle.ch32_i2c.proofs.RustRefuses.{master-refused, master-unadded, timing-added}
 use Rattle.ch32_i2c.proofs.Stops.{init-stops, master-stops, init-slave-stops, slave-stops}
 
 -- ---- what the machine of a call shows
@@ -196,33 +197,48 @@ none-added (respondToRead chip reply) room q = small (length reply) q
 accepted-ours : (c : Call) (block bytes : List ℕ) → Accepted c block bytes → (turns : ℕ) (answers : List ℕ) → length answers < turns → shownBy c (length bytes) answers ≡ ours turns c (length bytes) answers
 accepted-ours c block bytes a turns answers h = shown-ours c (length bytes) (none-added c (length bytes) (parts c block bytes a .own)) turns answers h
 
--- a refused call shows its refusal
-call-refused : (c : master.Call) (l : Lent) (e : Error) → refusal c l ≡ some e → (answers : List ℕ) → callShown c l answers ≡ noMore (some (failed e))
-unfolding callShown
-call-refused c l e q answers = ap (λ (o : Option Error). seenAfter o c l answers) q
-
-timed-refused : (chip : ℕ) (x : Timed) (e : Error) → timedRefusal x ≡ some e → (answers : List ℕ) → shownTimed chip x answers ≡ noMore (some (failed e))
-timed-refused chip (timed.At t) e q answers = let z : _≡_ {A = ℕ} 0 1 = cc in absurd (omega arith)
-timed-refused chip (timed.Refused f) e q answers = let z : f ≡ e = cc in ap (λ (x : Error). noMore (some (failed x))) z
-
+-- the Rust refuses with 6 and 9
 init-slave-refused : (c : SlaveConfig) (e : Error) → initSlaveMachine.initRefusal c ≡ some e → (answers : List ℕ) → initShown c answers ≡ noMore (some (failed e))
 unfolding initShown
 init-slave-refused c e q answers = ap (λ (o : Option Error). slaveCalls.seenAfter o (shownFrom initSlaveMachine.initMachine [] (initSlaveMachine.started c) answers)) q
 
-slave-refused : (chip : ℕ) (x : slave.Kind) (l : SlaveLent) (e : Error) → sizeRefusal (sizeOf x l) ≡ some e → (answers : List ℕ) → slaveShown (chipOf chip) x l answers ≡ noMore (some (failed e))
-unfolding slaveShown
-slave-refused chip x l e q answers = ap (λ (o : Option Error). slaveCalls.seenAfter o (shownFrom (slaveMachine.slave (slaveCalls.settingOf (chipOf chip) x l)) (slaveCalls.bytesOf x l) (slaveMachine.start x) answers)) q
+size-added : {P : Type 0} (n : ℕ) (e : Error) → theRusts e ≡ true → sizeRefusal n ≡ some e → P
+size-added n e r q = go (ltb 65535 n) q
+  where
+    go : {P : Type 0} (b : Bool) → cond b (some BufferTooLong) none ≡ some e → P
+    go true q = let z : BufferTooLong ≡ e = cc in absurd (true≢false (sym r ∙ ap theRusts (sym z)))
+    go false q = let z : _≡_ {A = ℕ} 0 1 = cc in absurd (omega arith)
 
-shown-refused : (c : Call) (room : ℕ) (e : Error) → ownRefusal c room ≡ some e → (answers : List ℕ) → shownBy c room answers ≡ noMore (some (failed e))
-shown-refused (init chip input frequency duty) room e q answers = timed-refused chip (timing (chipOf chip) input frequency (cInit.dutyOf duty)) e q answers
-shown-refused (transaction chip address list written) room e q answers = call-refused (callOf chip address kind.Transaction) (lentWith list written room) e q answers
-shown-refused (writeRead chip address written) room e q answers = call-refused (callOf chip address kind.WriteRead) (lentWith [] written room) e q answers
-shown-refused (write chip address option written) room e q answers = call-refused (callOf chip address (kind.Write (frameOptionsOf option))) (lentWith [] written 0) e q answers
-shown-refused (read chip address option) room e q answers = call-refused (callOf chip address (kind.Read (frameOptionsOf option))) (lentWith [] [] room) e q answers
-shown-refused (initSlave ten address has second general stretching) room e q answers = init-slave-refused (cInitSlave.configOf ten address has second general stretching) e q answers
-shown-refused (listen chip) room e q answers = let z : _≡_ {A = ℕ} 0 1 = cc in absurd (omega arith)
-shown-refused (respondToWrite chip) room e q answers = slave-refused chip RespondToWrite (slaveLent.lentWith [] room) e q answers
-shown-refused (respondToRead chip reply) room e q answers = slave-refused chip RespondToRead (slaveLent.lentWith reply 0) e q answers
+rust-refused : (c : Call) (room : ℕ) (e : Error) → ownRefusal c room ≡ some e → theRusts e ≡ true → (turns : ℕ) (answers : List ℕ) → length answers < turns → rust turns c room answers ≡ noMore (some (failed e))
+rust-refused (init chip input frequency duty) room e q r turns answers h = timing-added (chipOf chip) input frequency (cInit.dutyOf duty) e r q
+rust-refused (transaction chip address list written) room e q r turns answers h = master-refused (callOf chip address kind.Transaction) (lentWith list written room) turns answers e r q
+rust-refused (writeRead chip address written) room e q r turns answers h = master-refused (callOf chip address kind.WriteRead) (lentWith [] written room) turns answers e r q
+rust-refused (write chip address option written) room e q r turns answers h = master-refused (callOf chip address (kind.Write (frameOptionsOf option))) (lentWith [] written 0) turns answers e r q
+rust-refused (read chip address option) room e q r turns answers h = master-refused (callOf chip address (kind.Read (frameOptionsOf option))) (lentWith [] [] room) turns answers e r q
+rust-refused (initSlave ten address has second general stretching) room e q r turns answers h =
+    let c = cInitSlave.configOf ten address has second general stretching in
+    sym (slave-is-ours .init c turns answers h) ∙ init-slave-refused c e q answers
+rust-refused (listen chip) room e q r turns answers h = let z : _≡_ {A = ℕ} 0 1 = cc in absurd (omega arith)
+rust-refused (respondToWrite chip) room e q r turns answers h = size-added room e r q
+rust-refused (respondToRead chip reply) room e q r turns answers h = size-added (length reply) e r q
+
+small-refused : {P : Type 0} (n : ℕ) (e : Error) → n ≤ 65535 → sizeRefusal n ≡ some e → P
+small-refused n e h q = let z : none ≡ some e = ap (λ (b : Bool). cond b (some BufferTooLong) none) (sym (le-ltb 65535 n h)) ∙ q in let y : _≡_ {A = ℕ} 0 1 = cc in absurd (omega arith)
+
+config-refused : (b : Bool) (e : Error) → cond b (some InvalidAddress) none ≡ some e → theRusts e ≡ true
+config-refused true e q = let z : InvalidAddress ≡ e = cc in ap theRusts (sym z)
+config-refused false e q = let z : _≡_ {A = ℕ} 0 1 = cc in absurd (omega arith)
+
+unadded : (c : Call) (room : ℕ) (e : Error) → NoneAdded c room → ownRefusal c room ≡ some e → theRusts e ≡ true
+unadded (init chip input frequency duty) room e n q = let y : _≡_ {A = ℕ} 0 1 = cc in absurd (omega arith)
+unadded (transaction chip address list written) room e n q = master-unadded (callOf chip address kind.Transaction) (lentWith list written room) e n q
+unadded (writeRead chip address written) room e n q = master-unadded (callOf chip address kind.WriteRead) (lentWith [] written room) e n q
+unadded (write chip address option written) room e n q = master-unadded (callOf chip address (kind.Write (frameOptionsOf option))) (lentWith [] written 0) e n q
+unadded (read chip address option) room e n q = master-unadded (callOf chip address (kind.Read (frameOptionsOf option))) (lentWith [] [] room) e n q
+unadded (initSlave ten address has second general stretching) room e n q = config-refused (initSlaveMachine.configFault (cInitSlave.configOf ten address has second general stretching)) e q
+unadded (listen chip) room e n q = let z : _≡_ {A = ℕ} 0 1 = cc in absurd (omega arith)
+unadded (respondToWrite chip) room e n q = small-refused room e n q
+unadded (respondToRead chip reply) room e n q = small-refused (length reply) e n q
 
 -- ---- begin refuses with the first cause
 
@@ -447,11 +463,8 @@ demand-2 =
           );
       others = others;
       returns = returns;
-      refused =
-          λ c room n e q turns answers h.
-          as-the-rust c room turns answers
-          ∙ ap (forgetting (endAsTheRust c)) (sym (shown-ours c room n turns answers h) ∙ shown-refused c room e q answers)
-          ∙ ap (λ (x : Ending). noMore (some x)) (others c e);
+      refused = rust-refused;
+      unadded = unadded;
       joins = runs-join;
     }
 

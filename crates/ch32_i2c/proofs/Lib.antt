@@ -21,6 +21,7 @@ pub mod Goes
 pub mod Stops
 pub mod Paired
 pub mod SlaveEnds
+pub mod RustRefuses
 pub mod Demands
 pub mod Edges
 pub mod Examples

@@ -15,7 +15,7 @@ use Rattle.access.specs.declared.ending.Error.{Error}
 use Rattle.access.specs.declared.ending.Error.the-variants.{InvalidState, InvalidArgument}
 use Rattle.access.specs.declared.next.Next.{Next}
 use Rattle.access.specs.declared.next.Next.the-variants as next
-use Rattle.access.specs.Endings.{returned, failed, isMet}
+use Rattle.access.specs.Endings.{errorNumber, returned, failed, isMet}
 use Rattle.access.specs.Machine.{isEnd}
 use Rattle.access.specs.Numbers.{nextNumber, HoldsWords}
 use Rattle.access.specs.Record.{Shown, noMore, Same, EndsAlike}
@@ -176,6 +176,10 @@ endAsTheRust (listen chip) e = asTheRust (chipOf chip) false e
 endAsTheRust (respondToWrite chip) e = asTheRust (chipOf chip) false e
 endAsTheRust (respondToRead chip reply) e = asTheRust (chipOf chip) false e
 
+-- the refusals that the Rust gives too: 6 and 9
+abbrev pub theRusts : Error → Bool
+theRusts e = eqb (errorNumber e) 6 || eqb (errorNumber e) 9
+
 -- none of the call's own causes that the port adds to the Rust's: 8 at its size, 10 to 14, and 16 for a list
 abbrev pub NoneAdded : Call → ℕ → Type 0
 NoneAdded (init chip input frequency duty) room = ownRefusal (init chip input frequency duty) room ≡ none
@@ -324,9 +328,11 @@ pub record Demand2 : Type 0 where
   -- nothing is forgotten of an end that no error check decided
   pub others : (c : Call) (e : Error) → endAsTheRust c (failed e) ≡ failed e
   pub returns : (c : Call) (v : ℕ) → endAsTheRust c (returned v) ≡ returned v
-  -- a call that is refused without an added cause is refused by the Rust with the same error, before any access
-  pub refused : (c : Call) (room : ℕ) → NoneAdded c room → (e : Error) → ownRefusal c room ≡ some e → (turns : ℕ) (answers : List ℕ) → length answers < turns
+  -- a call whose first cause is 6 or 9 is refused by the Rust with the same error, before any access
+  pub refused : (c : Call) (room : ℕ) (e : Error) → ownRefusal c room ≡ some e → theRusts e ≡ true → (turns : ℕ) (answers : List ℕ) → length answers < turns
       → rust turns c room answers ≡ noMore (some (failed e))
+  -- and a call that is refused without an added cause has no other first cause
+  pub unadded : (c : Call) (room : ℕ) (e : Error) → NoneAdded c room → ownRefusal c room ≡ some e → theRusts e ≡ true
   -- embedded-hal's joining
   pub joins : RunsJoin
 
