@@ -1,5 +1,26 @@
 -- The three demands, said of what C programs call: of blocks, lent bytes and what the eighteen functions hand out. Each exported function's
--- contract says that it returns the number of what its definition hands out, and leaves the definition's bytes (specs/Left.antt).
+-- contract says that it returns the number of what its definition hands out, and leaves the definition's bytes (`Leaves`, specs/Left.antt).
+--
+-- Which definition each contract cites (tests/tie.py, a part of `make test`, compares this with the contracts in src/ and with `entryOf`):
+--
+--   ch32_i2c_init_begin               initBegin block chip input frequency duty
+--   ch32_i2c_init_step                initStep block answer
+--   ch32_i2c_transaction_begin        transactionBegin block chip address list written read
+--   ch32_i2c_transaction_step         transactionStep block list written read answer
+--   ch32_i2c_write_read_begin         writeReadBegin block chip address written read
+--   ch32_i2c_write_read_step          writeReadStep block written read answer
+--   ch32_i2c_write_begin              writeBegin block chip address option written
+--   ch32_i2c_write_step               writeStep block written answer
+--   ch32_i2c_read_begin               readBegin block chip address option read
+--   ch32_i2c_read_step                readStep block read answer
+--   ch32_i2c_init_slave_begin         initSlaveBegin block ten_bit address has_second second general_call clock_stretching
+--   ch32_i2c_init_slave_step          initSlaveStep block answer
+--   ch32_i2c_listen_begin             listenBegin block chip
+--   ch32_i2c_listen_step              listenStep block answer
+--   ch32_i2c_respond_to_write_begin   respondToWriteBegin block chip buffer
+--   ch32_i2c_respond_to_write_step    respondToWriteStep block buffer answer
+--   ch32_i2c_respond_to_read_begin    respondToReadBegin block chip reply
+--   ch32_i2c_respond_to_read_step     respondToReadStep block reply answer
 use mathlib.Core.Path.{_≡_}
 use mathlib.Core.Bool.{Bool, true, false, not, _&&_, _||_}
 use mathlib.Core.List.{List, [], _∷_, _++_, map}
