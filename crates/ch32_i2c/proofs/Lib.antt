@@ -12,6 +12,7 @@ pub mod MetEnds
 pub mod HeldLaws
 pub mod InitCarried
 pub mod TransferCarried
+pub mod TransferStages
 pub mod TransferMet
 pub mod ResponseCarried
 pub mod ResponseMet
