@@ -244,15 +244,15 @@ pub init-slave-met : (s : InitState) → MetNeed (initSlaveMachine.owed s)
 unfolding initSlaveMachine.owed
 init-slave-met s = init-slave-stage-met (s .stage) s
 
+pub init-shown : (c : SlaveConfig) → initSlaveMachine.initRefusal c ≡ none → (answers : List ℕ) → shownFrom initSlaveMachine.initMachine [] (initSlaveMachine.started c) answers ≡ initShown c answers
+unfolding initShown
+init-shown c accepted answers = ap (λ (o : Option Error). slaveCalls.seenAfter o (shownFrom initSlaveMachine.initMachine [] (initSlaveMachine.started c) answers)) (sym accepted)
+
 module _ (ten address has second general stretching : ℕ) (block : List ℕ) (size : length block ≡ blockSize) (known : cInitSlave.unknownFlags ten has general stretching ≡ false) where
   abbrev config : SlaveConfig
   config = cInitSlave.configOf ten address has second general stretching
 
   module _ (accepted : initSlaveMachine.initRefusal config ≡ none) where
-    init-shown : (answers : List ℕ) → shownFrom initSlaveMachine.initMachine [] (initSlaveMachine.started config) answers ≡ initShown config answers
-    unfolding initShown
-    init-shown answers = ap (λ (o : Option Error). slaveCalls.seenAfter o (shownFrom initSlaveMachine.initMachine [] (initSlaveMachine.started config) answers)) (sym accepted)
-
     pub slave-begun : cInitSlave.initSlaveBegin block ten address has second general stretching ≡ left (filled [] (initSlaveMachine.owed (initSlaveMachine.started config))) (initSlaveImage (initSlaveMachine.started config)) []
     unfolding cInitSlave.initSlaveBegin initSlaveMachine.begin
     slave-begun =
@@ -261,7 +261,7 @@ module _ (ten address has second general stretching : ℕ) (block : List ℕ) (s
 
     pub init-slave-runs : Runs (initSlaveEntry ten address has second general stretching) block [] (initShown config)
     init-slave-runs =
-        runs-as (λ answers. shownFrom initSlaveMachine.initMachine [] (initSlaveMachine.started config) answers) (initShown config) init-shown
+        runs-as (λ answers. shownFrom initSlaveMachine.initMachine [] (initSlaveMachine.started config) answers) (initShown config) (init-shown config accepted)
         (record {
           makes = λ answers. carried (init-slave-carries ten address has second general stretching) (initSlaveMachine.started config) block [] tt refl slave-begun answers;
           recorded = λ answers. recorded initSlaveMachine.initMachine [] (initSlaveMachine.started config) answers;

@@ -13,8 +13,10 @@ use borrow.Author.Tests.{ltb-false, le-ltb}
 use Rattle.access.specs.declared.ending.Ending.{Ending}
 use Rattle.access.specs.declared.ending.Error.{Error}
 use Rattle.access.specs.declared.ending.Error.the-variants.{InvalidState, InvalidArgument, InvalidAddress, BufferTooLong}
-use Rattle.access.specs.Endings.{returned, failed}
-use Rattle.access.specs.Record.{Shown, noMore, DifferInPayload, Same, SameStruck, EndsAlike, struck}
+use Rattle.access.specs.declared.ending.Ending.the-variants.{Failed}
+use Rattle.access.specs.Endings.{done, returned, failed}
+use Rattle.access.specs.Program.{Program, finish}
+use Rattle.access.specs.Record.{Shown, noMore, shownOf, DifferInPayload, Same, SameStruck, EndsAlike, struck}
 use Rattle.access.specs.Machine.{shownFrom}
 use Rattle.access.proofs.NumberLaws.{number-injective}
 use Rattle.alike.specs.Like.{forgetEnd, forgetting}
@@ -29,10 +31,12 @@ use Rattle.timing.specs.Machine as initMachine
 use Rattle.timing.proofs.InitAgrees.{init-is-the-rust}
 use Rattle.master.specs.declared.call.Call as master
 use Rattle.master.specs.declared.call.Kind.the-variants as kind
-use Rattle.master.specs.Calls.{Lent, lentWith, cut, refuse, refusal, InForm, callShown, seenAfter, spansBy, spansOf}
+use Rattle.master.specs.Calls.{Lent, lentWith, cut, refuse, refusal, InForm, rustWith, oursWith, callShown, seenAfter, spansBy, spansOf}
 use Rattle.master.specs.Steps as masterSteps
 use Rattle.master.specs.Claims.{Comparable}
 use Rattle.master.specs.Joined.{Joined, JW, JR, joined}
+use Rattle.master.specs.Rust.{theRust}
+use Rattle.master.specs.Ours as masterOurs
 use Rattle.master.proofs.CallAgrees.{master-is-ours}
 use Rattle.master.proofs.LentLaws.{bytesJ, list-bytes}
 use Rattle.master.proofs.Joining.{runs-join}
@@ -53,13 +57,14 @@ use Rattle.slave_driver.specs.Lent as slaveLent
 use Rattle.images.specs.Numbers.{chipOf, transactionEntry, writeReadEntry, writeEntry, readEntry, listenEntry, respondToWriteEntry, respondToReadEntry}
 use Rattle.images.specs.MasterImage.{frameOptionsOf}
 use Rattle.ch32_i2c.specs.Left.{Left, refusedWith}
-use Rattle.ch32_i2c.specs.Fed.{lefts, handedOut, stored, Makes, Begins, Seen, seenOf, recordIn, struckBy, asSeen, struckIn, DifferAtPayload, payloadIn}
+use Rattle.ch32_i2c.specs.Fed.{lefts, handedOut, stored, Makes, Begins, Seen, seenOf, recordIn, StruckSeen, struckBy, asSeen, struckIn, DifferAtPayload, payloadIn}
+use Rattle.ch32_i2c.specs.Manual.{Keeps}
 use Rattle.ch32_i2c.specs.Init as cInit
 use Rattle.ch32_i2c.specs.Transfer.{callOf, masterBegin}
 use Rattle.ch32_i2c.specs.Transfer as cTransfer
 use Rattle.ch32_i2c.specs.InitSlave as cInitSlave
 use Rattle.ch32_i2c.specs.Response as cResponse
-use Rattle.ch32_i2c.specs.Demands.{Call, init, transaction, writeRead, write, read, initSlave, listen, respondToWrite, respondToRead, entryOf, Reads, unknown, ownRefusal, refusalOf, Accepted, timedRefusal, rust, ours, endAsTheRust, timedShown, theRusts, NoneAdded, IsMet, takes, nothingToDo, Over, Demand1, Demand2, Demand3, SeenAlike, SameRuns, transactions, writeReads, writes, reads, bytesOfRun, writtenRuns, oursAfter, recordAfter, endAfter, Records, OfDemand2, RepliesEnd, SeenSame}
+use Rattle.ch32_i2c.specs.Demands.{Call, init, transaction, writeRead, write, read, initSlave, listen, respondToWrite, respondToRead, entryOf, Reads, unknown, ownRefusal, refusalOf, Accepted, timedRefusal, rust, ours, endAsTheRust, timedShown, theRusts, NoneAdded, IsMet, takes, nothingToDo, Over, Demand1, Demand2, Demand3, SeenAlike, SameRuns, transactions, writeReads, writes, reads, bytesOfRun, writtenRuns, oursAfter, recordAfter, endAfter, struckAfter, Records, runsShown, wordsOf, OfDemand2, RepliesEnd, SeenSame}
 use Rattle.ch32_i2c.proofs.Recorded.{record-is, end-is, struck-same}
 use Rattle.ch32_i2c.proofs.PayloadLaws.{differ-same, Answered, answered, answers-same}
 use Rattle.ch32_i2c.proofs.CallsRun.{parts, Runs, begin-left, response-left, transfer-runs, write-runs, response-runs, unread-runs, init-runs, init-slave-runs, shownTimed, small}
@@ -67,6 +72,8 @@ use Rattle.ch32_i2c.proofs.SlaveEnds.{reply-ends, reply-end, listen-end
 use Rattle.ch32_i2c.proofs.Begins.{transaction-starts, write-read-starts, frame-starts, read-starts, transfer-begins, response-begins, init-begins, init-slave-begins}
 use Rattle.ch32_i2c.proofs.Goes.{Is15, init-goes, master-goes, init-slave-goes, slave-goes}
 use Rattle.ch32_i2c.proofs.RustRefuses.{master-refused, master-unadded, timing-added}
+use Rattle.ch32_i2c.proofs.RunsRecord.{seven-bits, transaction-runs}
+use Rattle.ch32_i2c.proofs.Words.{Obey, struck-keeps, transfer-obeys, init-slave-obeys, init-obeys, obeys-free}
 use Rattle.ch32_i2c.proofs.Stops.{init-stops, master-stops, init-slave-stops, slave-stops}
 
 -- ---- what the machine of a call shows
@@ -449,6 +456,47 @@ makes : (c : Call) (block bytes : List ℕ) → Reads c bytes → Accepted c blo
     → Makes (entryOf c) block bytes answers (ours turns c (length bytes) answers)
 makes c block bytes k a turns answers h = subst (λ (s : Shown). Makes (entryOf c) block bytes answers s) (accepted-ours c block bytes a turns answers h) (runs c block bytes k a .makes answers)
 
+-- runs with joined bytes
+ours-join : (chip address : ℕ) (list written : List ℕ) (room : ℕ) → refusal (callOf chip address kind.Transaction) (lentWith list written room) ≡ none → (turns : ℕ) (answers : List ℕ)
+    → ours turns (transaction chip address list written) room answers ≡ runsShown (masterOurs.ours (chipOf chip)) turns chip address (joined (cut (operationsOf list) written)) answers
+unfolding refusal oursWith
+ours-join chip address list written room q turns answers =
+    let l = lentWith list written room in
+    ap (λ (p : Program). shownOf 0 p answers)
+    (transaction-runs (chipOf chip) (masterOurs.ours (chipOf chip)) address l q (runs-join .ours-passes (chipOf chip) address (seven-bits address l q)) turns (λ f. finish (Failed f)) (λ _. finish done))
+
+rust-joins : (chip address : ℕ) (list written : List ℕ) (room : ℕ) → refusal (callOf chip address kind.Transaction) (lentWith list written room) ≡ none → (turns : ℕ) (answers : List ℕ)
+    → rust turns (transaction chip address list written) room answers ≡ runsShown (theRust (chipOf chip)) turns chip address (joined (cut (operationsOf list) written)) answers
+unfolding refusal rustWith
+rust-joins chip address list written room q turns answers =
+    let l = lentWith list written room in
+    ap (λ (p : Program). shownOf 0 p answers)
+    (transaction-runs (chipOf chip) (theRust (chipOf chip)) address l q (runs-join .rust-passes (chipOf chip) address (seven-bits address l q)) turns (λ f. finish (Failed f)) (λ _. finish done))
+
+joins : (chip address : ℕ) (list written block bytes : List ℕ) → Accepted (transaction chip address list written) block bytes → (turns : ℕ) (answers : List ℕ) → length answers < turns
+    → Records (transaction chip address list written) block bytes answers (runsShown (masterOurs.ours (chipOf chip)) turns chip address (joined (cut (operationsOf list) written)) answers)
+joins chip address list written block bytes a turns answers h =
+    subst (λ (s : Shown). Records (transaction chip address list written) block bytes answers s)
+    (ours-join chip address list written (length bytes) (parts (transaction chip address list written) block bytes a .own) turns answers)
+    (seen-ours (transaction chip address list written) block bytes tt a turns answers h)
+
+-- the words that are written
+obeys : (c : Call) (room : ℕ) → ownRefusal c room ≡ none → (answers : List ℕ) → Obey (wordsOf c) (shownBy c room answers .events)
+obeys (init chip input frequency duty) room q answers = init-obeys chip input frequency duty q answers
+obeys (transaction chip address list written) room q answers = transfer-obeys (callOf chip address kind.Transaction) (lentWith list written room) q answers
+obeys (writeRead chip address written) room q answers = transfer-obeys (callOf chip address kind.WriteRead) (lentWith [] written room) q answers
+obeys (write chip address option written) room q answers = transfer-obeys (callOf chip address (kind.Write (frameOptionsOf option))) (lentWith [] written 0) q answers
+obeys (read chip address option) room q answers = transfer-obeys (callOf chip address (kind.Read (frameOptionsOf option))) (lentWith [] [] room) q answers
+obeys (initSlave ten address has second general stretching) room q answers = init-slave-obeys ten address has second general stretching q answers
+obeys (listen chip) room q answers = obeys-free (shownBy (listen chip) room answers .events)
+obeys (respondToWrite chip) room q answers = obeys-free (shownBy (respondToWrite chip) room answers .events)
+obeys (respondToRead chip reply) room q answers = obeys-free (shownBy (respondToRead chip reply) room answers .events)
+
+words : (c : Call) (block bytes : List ℕ) → Reads c bytes → Accepted c block bytes → (answers : List ℕ) → Keeps (wordsOf c) (struckAfter c block bytes answers)
+words c block bytes k a answers =
+    subst (λ (xs : List StruckSeen). Keeps (wordsOf c) xs) (ap struckIn (shown-after c block bytes k a answers) ∙ sym (of-demand-2 c block bytes k a answers .struck))
+    (struck-keeps (wordsOf c) (shownBy c (length bytes) answers .events) (obeys c (length bytes) (parts c block bytes a .own) answers))
+
 pub demand-2 : Demand2
 demand-2 =
     record {
@@ -465,7 +513,10 @@ demand-2 =
       returns = returns;
       refused = rust-refused;
       unadded = unadded;
-      joins = runs-join;
+      joins = joins;
+      rust-joins = λ chip address list written block bytes a turns answers. rust-joins chip address list written (length bytes) (parts (transaction chip address list written) block bytes a .own) turns answers;
+      joins-with = runs-join;
+      words = words;
     }
 
 -- ---- demand 3

@@ -23,6 +23,8 @@ pub mod Stops
 pub mod Paired
 pub mod SlaveEnds
 pub mod RustRefuses
+pub mod Words
+pub mod RunsRecord
 pub mod Demands
 pub mod Edges
 pub mod Examples

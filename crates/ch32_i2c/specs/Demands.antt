@@ -36,10 +36,11 @@ use Rattle.access.specs.declared.ending.Error.{Error}
 use Rattle.access.specs.declared.ending.Error.the-variants.{InvalidState, InvalidArgument}
 use Rattle.access.specs.declared.next.Next.{Next}
 use Rattle.access.specs.declared.next.Next.the-variants as next
-use Rattle.access.specs.Endings.{errorNumber, returned, failed, isMet}
+use Rattle.access.specs.Endings.{errorNumber, done, returned, failed, isMet}
 use Rattle.access.specs.Machine.{isEnd}
 use Rattle.access.specs.Numbers.{nextNumber, HoldsWords}
-use Rattle.access.specs.Record.{Shown, noMore, Same, EndsAlike}
+use Rattle.access.specs.Program as program
+use Rattle.access.specs.Record.{Shown, noMore, shownOf, Same, EndsAlike}
 use Rattle.alike.specs.Like.{forgetting}
 use Rattle.errors.specs.AsTheRust.{asTheRust}
 use Rattle.operations.specs.Operations.{operationsOf}
@@ -53,7 +54,9 @@ use Rattle.timing.specs.Machine as initMachine
 use Rattle.master.specs.declared.call.Call as transfer
 use Rattle.master.specs.declared.call.Kind.the-variants as kind
 use Rattle.master.specs.Steps as master
-use Rattle.master.specs.Joined.{Joined, JW, JR, joined}
+use Rattle.master.specs.Rust.{Parts, theRust}
+use Rattle.master.specs.Ours as parts
+use Rattle.master.specs.Joined.{Joined, JW, JR, joined, runs-program}
 use Rattle.master.specs.Calls.{Lent, lentWith, cut, refuse, refusal, rustWith, oursWith, spansBy, NoAddedCause}
 use Rattle.master.specs.Claims.{RunsJoin}
 use Rattle.slave.specs.declared.config.SlaveAddress.{SlaveAddress}
@@ -80,6 +83,7 @@ use Rattle.images.specs.Numbers.{chipOf, transactionEntry, writeReadEntry, writ
 use Rattle.images.specs.MasterImage.{frameOptionsOf}
 use Rattle.ch32_i2c.specs.Left.{Left, refusedWith}
 use Rattle.ch32_i2c.specs.Fed.{Entry, lefts, lastFrom, handedOut, stored, Makes, Begins, Seen, recordOf, endIn, recordIn, StruckSeen, struckBy, struckIn, DifferAtPayload, payloadIn}
+use Rattle.ch32_i2c.specs.Manual.{Rule, Keeps, free, addressing, owning, clocking}
 use Rattle.ch32_i2c.specs.Init.{dutyOf, initBegin, initHeld, initStep}
 use Rattle.ch32_i2c.specs.Transfer.{callOf, masterHeld, transactionBegin, transactionStep, writeReadBegin, writeReadStep, writeBegin, writeStep, readBegin, readStep}
 use Rattle.ch32_i2c.specs.InitSlave.{configOf, unknownFlags, initSlaveBegin, initSlaveHeld, initSlaveStep}
@@ -332,6 +336,22 @@ pub record Demand1 : Type 0 where
 
 -- ---- demand 2: the Rust's accesses
 
+-- the runs of a transaction one after the other, each with its bytes joined
+abbrev pub runsShown : Parts → ℕ → ℕ → ℕ → List Joined → List ℕ → Shown
+runsShown p turns chip address runs answers = shownOf 0 (program.callOf (runs-program (chipOf chip) p address runs) (λ _. done) turns) answers
+
+-- the words that a call may write
+abbrev pub wordsOf : Call → Rule
+wordsOf (init chip input frequency duty) = clocking (chipOf chip) input frequency (dutyOf duty)
+wordsOf (transaction chip address list written) = addressing address
+wordsOf (writeRead chip address written) = addressing address
+wordsOf (write chip address option written) = addressing address
+wordsOf (read chip address option) = addressing address
+wordsOf (initSlave ten address has second general stretching) = owning ten address has second
+wordsOf (listen chip) = free
+wordsOf (respondToWrite chip) = free
+wordsOf (respondToRead chip reply) = free
+
 pub record Demand2 : Type 0 where
   -- an accepted call makes the accesses and the end of our text, and reads the same bytes, for every list of answers
   pub same : (c : Call) (block bytes : List ℕ) → Reads c bytes → Accepted c block bytes → (turns : ℕ) (answers : List ℕ) → length answers < turns
@@ -354,8 +374,15 @@ pub record Demand2 : Type 0 where
       → rust turns c room answers ≡ noMore (some (failed e))
   -- and a call that is refused without an added cause has no other first cause
   pub unadded : (c : Call) (room : ℕ) (e : Error) → NoneAdded c room → ownRefusal c room ≡ some e → theRusts e ≡ true
-  -- embedded-hal's joining
-  pub joins : RunsJoin
+  -- embedded-hal's rules fix how neighbouring operations join: the record of an accepted transaction is that of its runs, each with its bytes
+  -- joined; and so is the Rust's. Whatever the error check and the address phase are (`RunsJoin`)
+  pub joins : (chip address : ℕ) (list written block bytes : List ℕ) → Accepted (transaction chip address list written) block bytes → (turns : ℕ) (answers : List ℕ) → length answers < turns
+      → Records (transaction chip address list written) block bytes answers (runsShown (parts.ours (chipOf chip)) turns chip address (joined (cut (operationsOf list) written)) answers)
+  pub rust-joins : (chip address : ℕ) (list written block bytes : List ℕ) → Accepted (transaction chip address list written) block bytes → (turns : ℕ) (answers : List ℕ)
+      → rust turns (transaction chip address list written) (length bytes) answers ≡ runsShown (theRust (chipOf chip)) turns chip address (joined (cut (operationsOf list) written)) answers
+  pub joins-with : RunsJoin
+  -- the manual fixes dividers and address words: each word that an accepted call writes, payload apart, is document 01's
+  pub words : (c : Call) (block bytes : List ℕ) → Reads c bytes → Accepted c block bytes → (answers : List ℕ) → Keeps (wordsOf c) (struckAfter c block bytes answers)
 
 -- ---- demand 3: no payload in the record
 
