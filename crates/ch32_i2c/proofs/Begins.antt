@@ -58,10 +58,11 @@ use Rattle.ch32_i2c.specs.InitSlave as cInitSlave
 use Rattle.ch32_i2c.specs.Response.{slaveHeld}
 use Rattle.ch32_i2c.specs.Demands.{init, initSlave, entryOf, takes, timedRefusal, takesInit, takesTransfer, takesInitSlave, takesResponse}
 use Rattle.ch32_i2c.proofs.HeldLaws.{init-held, master-held, init-slave-held, slave-held}
-use Rattle.ch32_i2c.proofs.InitCarried.{initImage, initSlaveImage}
+use Rattle.ch32_i2c.proofs.InitCarried.{InitFit, initImage, InitSlaveFit, initSlaveImage}
+use Rattle.ch32_i2c.proofs.InitRange.{settled-range}
 use Rattle.ch32_i2c.proofs.TransferCarried as transfer
 use Rattle.ch32_i2c.proofs.ResponseCarried as response
-use Rattle.ch32_i2c.proofs.CallsRun.{init-begun, slave-begun}
+use Rattle.ch32_i2c.proofs.CallsRun.{config-passed, init-begun, slave-begun}
 
 -- what a call that is over at once, or not, owes first
 abbrev pub Starts : Bool → Need → Type 0
@@ -102,11 +103,11 @@ pub response-takes : (chip : Chip) (x : slave.Kind) (l : SlaveLent) → slaveCal
 response-takes chip x l accepted m g =
     ap (λ (f : SlaveFound). takesResponse f l) (slave-held (slaveSteps.stateAt (slaveCalls.settingOf chip x l) m)) ∙ response.open-at chip x l accepted m g (isEnd (slaveMachine.owed (slaveCalls.settingOf chip x l) m)) refl
 
-pub init-takes : (s : timingState.State) → takesInit (cInit.initHeld (initImage s)) ≡ not (isEnd (initMachine.owed s))
-init-takes s = ap takesInit (init-held s)
+pub init-takes : (s : timingState.State) → InitFit s → takesInit (cInit.initHeld (initImage s)) ≡ not (isEnd (initMachine.owed s))
+init-takes s g = ap takesInit (init-held s g)
 
-pub init-slave-takes : (s : InitState) → takesInitSlave (cInitSlave.initSlaveHeld (initSlaveImage s)) ≡ not (isEnd (initSlaveMachine.owed s))
-init-slave-takes s = ap takesInitSlave (init-slave-held s)
+pub init-slave-takes : (s : InitState) → InitSlaveFit s → takesInitSlave (cInitSlave.initSlaveHeld (initSlaveImage s)) ≡ not (isEnd (initSlaveMachine.owed s))
+init-slave-takes s g = ap takesInitSlave (init-slave-held s g)
 
 -- ---- what an accepted transfer owes first
 
@@ -203,7 +204,7 @@ module _ (chip input frequency duty : ℕ) (block : List ℕ) (size : length blo
   init-begins-at (timed.Refused e) q r = let z : _≡_ {A = ℕ} 0 1 = cc in absurd (omega arith)
   init-begins-at (timed.At t) q r =
       begins-with (entryOf (init chip input frequency duty)) (takes (init chip input frequency duty)) block [] [] (initImage (initMachine.started (chipOf chip) t)) (initMachine.owed (initMachine.started (chipOf chip) t))
-      (init-begun chip input frequency duty block size known t q) (init-takes (initMachine.started (chipOf chip) t)) false (init-starts (chipOf chip) t)
+      (init-begun chip input frequency duty block size known t q) (init-takes (initMachine.started (chipOf chip) t) (settled-range (chipOf chip) input frequency (cInit.dutyOf duty) t q)) false (init-starts (chipOf chip) t)
 
   pub init-begins : timedRefusal (timing (chipOf chip) input frequency (cInit.dutyOf duty)) ≡ none → Begins (entryOf (init chip input frequency duty)) (takes (init chip input frequency duty)) false block []
   init-begins r = init-begins-at (timing (chipOf chip) input frequency (cInit.dutyOf duty)) refl r
@@ -214,4 +215,4 @@ module _ (ten address has second general stretching : ℕ) (block : List ℕ) (s
   init-slave-begins r =
       let s = initSlaveMachine.started (cInitSlave.configOf ten address has second general stretching) in
       begins-with (entryOf (initSlave ten address has second general stretching)) (takes (initSlave ten address has second general stretching)) block [] [] (initSlaveImage s) (initSlaveMachine.owed s)
-      (slave-begun ten address has second general stretching block size known r) (init-slave-takes s) false (init-slave-starts (cInitSlave.configOf ten address has second general stretching))
+      (slave-begun ten address has second general stretching block size known r) (init-slave-takes s (config-passed (cInitSlave.configOf ten address has second general stretching) r)) false (init-slave-starts (cInitSlave.configOf ten address has second general stretching))

@@ -1,7 +1,7 @@
 -- What is seen of an accepted call, whichever it is: its machine's, and so layer 1's.
 -- Assumes nothing.
 use mathlib.Core.Path.{_≡_, refl, ap, sym, subst, _∙_}
-use mathlib.Core.Bool.{Bool, false, cond, not, _||_}
+use mathlib.Core.Bool.{Bool, true, false, cond, not, _||_}
 use mathlib.Core.List.{List, [], _∷_, _++_}
 use mathlib.Core.Option.{Option, none, some}
 use Prim.Native.Nat.{ℕ, _≤_}
@@ -11,7 +11,7 @@ use lib.ListN.{length}
 use borrow.Author.Tests.{eqb-true, ltb-false, not-false, le-ltb}
 use Rattle.access.specs.declared.ending.Ending.{Ending}
 use Rattle.access.specs.declared.ending.Error.{Error}
-use Rattle.access.specs.declared.ending.Error.the-variants.{InvalidState, InvalidArgument, BufferTooLong}
+use Rattle.access.specs.declared.ending.Error.the-variants.{InvalidState, InvalidArgument, InvalidAddress, BufferTooLong}
 use Rattle.access.specs.Endings.{failed}
 use Rattle.access.specs.Record.{Shown, noMore}
 use Rattle.access.specs.Machine.{filled, shownFrom}
@@ -58,7 +58,8 @@ use Rattle.ch32_i2c.proofs.Carried.{Carries, carried, over, shown-over,
 use Rattle.ch32_i2c.proofs.Recorded.{Recorded, recorded}
 use Rattle.ch32_i2c.proofs.MetEnds.{MetNeed, shown-met}
 use Rattle.ch32_i2c.proofs.LeavesLaws.{else}
-use Rattle.ch32_i2c.proofs.InitCarried.{initImage, initEntry, init-carries, initSlaveImage, initSlaveEntry, init-slave-carries, Any}
+use Rattle.ch32_i2c.proofs.InitRange.{settled-range}
+use Rattle.ch32_i2c.proofs.InitCarried.{initImage, initEntry, init-carries, initSlaveImage, initSlaveEntry, init-slave-carries, InitFit, InitSlaveFit, settings-stay, config-stays}
 use Rattle.ch32_i2c.proofs.TransferCarried.{transferEntry, transfer-carries}
 use Rattle.ch32_i2c.proofs.TransferCarried as transfer
 use Rattle.ch32_i2c.proofs.TransferMet.{transfer-met}
@@ -216,12 +217,13 @@ module _ (chip input frequency duty : ℕ) (block : List ℕ) (size : length blo
   init-runs-at : (x : Timed) → timing (chipOf chip) input frequency (cInit.dutyOf duty) ≡ x → timedRefusal x ≡ none → Runs (initEntry chip input frequency duty) block [] (shownTimed chip x)
   init-runs-at (timed.Refused e) q r = let z : _≡_ {A = ℕ} 0 1 = cc in absurd (omega arith)
   init-runs-at (timed.At t) q r =
+      let fit = settled-range (chipOf chip) input frequency (cInit.dutyOf duty) t q in
       record {
-        makes = λ answers. carried (init-carries chip input frequency duty) (initMachine.started (chipOf chip) t) block [] tt refl (init-begun t q) answers;
+        makes = λ answers. carried (init-carries chip input frequency duty) (initMachine.started (chipOf chip) t) block [] fit refl (init-begun t q) answers;
         recorded = λ answers. recorded initMachine.initMachine [] (initMachine.started (chipOf chip) t) answers;
-        met = λ answers. shown-met initMachine.initMachine [] Any (λ s a g. tt) (λ s g. init-met s) (initMachine.started (chipOf chip) t) tt answers;
+        met = λ answers. shown-met initMachine.initMachine [] InitFit (λ s a g. ap cInit.inRange (settings-stay s a) ∙ g) (λ s g. init-met s) (initMachine.started (chipOf chip) t) fit answers;
         stays = λ answers more x h. shown-over initMachine.initMachine [] (initMachine.started (chipOf chip) t) answers more x h;
-        over = λ answers x h. over (init-carries chip input frequency duty) (initMachine.started (chipOf chip) t) block [] tt refl (init-begun t q) answers x h;
+        over = λ answers x h. over (init-carries chip input frequency duty) (initMachine.started (chipOf chip) t) block [] fit refl (init-begun t q) answers x h;
       }
 
   pub init-runs : timedRefusal (timing (chipOf chip) input frequency (cInit.dutyOf duty)) ≡ none → Runs (initEntry chip input frequency duty) block [] (shownTimed chip (timing (chipOf chip) input frequency (cInit.dutyOf duty)))
@@ -244,6 +246,13 @@ pub init-slave-met : (s : InitState) → MetNeed (initSlaveMachine.owed s)
 unfolding initSlaveMachine.owed
 init-slave-met s = init-slave-stage-met (s .stage) s
 
+pub config-passed : (c : SlaveConfig) → initSlaveMachine.initRefusal c ≡ none → initSlaveMachine.configFault c ≡ false
+config-passed c q = go (initSlaveMachine.configFault c) q
+  where
+    go : (b : Bool) → cond b (some InvalidAddress) none ≡ none → b ≡ false
+    go true q = let z : _≡_ {A = ℕ} 0 1 = cc in absurd (omega arith)
+    go false q = refl
+
 pub init-shown : (c : SlaveConfig) → initSlaveMachine.initRefusal c ≡ none → (answers : List ℕ) → shownFrom initSlaveMachine.initMachine [] (initSlaveMachine.started c) answers ≡ initShown c answers
 unfolding initShown
 init-shown c accepted answers = ap (λ (o : Option Error). slaveCalls.seenAfter o (shownFrom initSlaveMachine.initMachine [] (initSlaveMachine.started c) answers)) (sym accepted)
@@ -263,9 +272,9 @@ module _ (ten address has second general stretching : ℕ) (block : List ℕ) (s
     init-slave-runs =
         runs-as (λ answers. shownFrom initSlaveMachine.initMachine [] (initSlaveMachine.started config) answers) (initShown config) (init-shown config accepted)
         (record {
-          makes = λ answers. carried (init-slave-carries ten address has second general stretching) (initSlaveMachine.started config) block [] tt refl slave-begun answers;
+          makes = λ answers. carried (init-slave-carries ten address has second general stretching) (initSlaveMachine.started config) block [] (config-passed config accepted) refl slave-begun answers;
           recorded = λ answers. recorded initSlaveMachine.initMachine [] (initSlaveMachine.started config) answers;
-          met = λ answers. shown-met initSlaveMachine.initMachine [] Any (λ s a g. tt) (λ s g. init-slave-met s) (initSlaveMachine.started config) tt answers;
+          met = λ answers. shown-met initSlaveMachine.initMachine [] InitSlaveFit (λ s a g. ap initSlaveMachine.configFault (config-stays s a) ∙ g) (λ s g. init-slave-met s) (initSlaveMachine.started config) (config-passed config accepted) answers;
           stays = λ answers more x h. shown-over initSlaveMachine.initMachine [] (initSlaveMachine.started config) answers more x h;
-          over = λ answers x h. over (init-slave-carries ten address has second general stretching) (initSlaveMachine.started config) block [] tt refl slave-begun answers x h;
+          over = λ answers x h. over (init-slave-carries ten address has second general stretching) (initSlaveMachine.started config) block [] (config-passed config accepted) refl slave-begun answers x h;
         })

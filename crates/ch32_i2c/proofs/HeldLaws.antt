@@ -1,7 +1,7 @@
 -- A block that is the image of a state holds it.
 -- Assumes nothing.
 use mathlib.Core.Path.{_≡_, refl, ap, _∙_}
-use mathlib.Core.Bool.{Bool, cond}
+use mathlib.Core.Bool.{Bool, true, false, cond}
 use Prim.Native.Nat.{ℕ}
 use lib.Dec.{eqb}
 use lib.ListN.{length}
@@ -13,6 +13,7 @@ use Rattle.timing.specs.declared.init.State as init
 use Rattle.master.specs.declared.state.State as master
 use Rattle.slave.specs.declared.init.InitState.{InitState}
 use Rattle.slave.specs.declared.state.State as slave
+use Rattle.slave.specs.Init.{configFault}
 use Rattle.images.specs.declared.init_image.InitFound.the-variants as initFound
 use Rattle.images.specs.declared.master_image.MasterFound.the-variants as masterFound
 use Rattle.images.specs.declared.init_slave_image.InitSlaveFound.the-variants as initSlaveFound
@@ -27,8 +28,10 @@ use Rattle.images.proofs.InitImageLaws.{init-found}
 use Rattle.images.proofs.MasterImageLaws.{master-found}
 use Rattle.images.proofs.InitSlaveImageLaws.{init-slave-found}
 use Rattle.images.proofs.SlaveImageLaws.{slave-found}
+use Rattle.ch32_i2c.specs.Init as cInit
 use Rattle.ch32_i2c.specs.Init.{initHeld}
 use Rattle.ch32_i2c.specs.Transfer.{masterHeld}
+use Rattle.ch32_i2c.specs.InitSlave as cInitSlave
 use Rattle.ch32_i2c.specs.InitSlave.{initSlaveHeld}
 use Rattle.ch32_i2c.specs.Response.{slaveHeld}
 
@@ -39,13 +42,17 @@ held find nothing f = ap (λ (n : ℕ). cond (eqb n blockSize) (find (fieldsOf (
 asked : {F : Type 0} (find : Fields → F) (nothing : F) (f : Fields) (entry : ℕ) → f .entry ≡ entry → cond (eqb (f .entry) entry) (find f) nothing ≡ find f
 asked find nothing f entry e = ap (λ (b : Bool). cond b (find f) nothing) (eq-eqb (f .entry) entry e)
 
-pub init-held : (s : init.State) → initHeld (bytesOf (initFields s)) ≡ initFound.At s
+pub init-held : (s : init.State) → cInit.inRange (s .timing) ≡ true → initHeld (bytesOf (initFields s)) ≡ initFound.At s
 unfolding initHeld
-init-held s = held initIn initFound.Nothing (initFields s) ∙ init-found s
+init-held s e =
+    held (λ (f : Fields). cInit.fitting (initIn f)) initFound.Nothing (initFields s) ∙ ap cInit.fitting (init-found s) ∙ ap (λ (b : Bool). cond b (initFound.At s) initFound.Nothing) e
 
-pub init-slave-held : (s : InitState) → initSlaveHeld (bytesOf (initSlaveFields s)) ≡ initSlaveFound.At s
+pub init-slave-held : (s : InitState) → configFault (s .config) ≡ false → initSlaveHeld (bytesOf (initSlaveFields s)) ≡ initSlaveFound.At s
 unfolding initSlaveHeld
-init-slave-held s = held initSlaveIn initSlaveFound.Nothing (initSlaveFields s) ∙ init-slave-found s
+init-slave-held s e =
+    held (λ (f : Fields). cInitSlave.fitting (initSlaveIn f)) initSlaveFound.Nothing (initSlaveFields s)
+    ∙ ap cInitSlave.fitting (init-slave-found s)
+    ∙ ap (λ (b : Bool). cond b initSlaveFound.Nothing (initSlaveFound.At s)) e
 
 master-entry : (s : master.State) → masterFields s .entry ≡ masterImage.kindEntry (s .call .kind)
 unfolding masterFields

@@ -1,7 +1,7 @@
 -- What begin and step of `init` leave.
 -- Assumes nothing.
 use mathlib.Core.Path.{_≡_, ap, sym, _∙_}
-use mathlib.Core.Bool.{true, false, _||_}
+use mathlib.Core.Bool.{Bool, true, false, cond, _||_}
 use mathlib.Core.List.{List, []}
 use Prim.Native.Nat.{ℕ}
 use native.Mathlib.Omega.{arith}
@@ -27,7 +27,7 @@ use Rattle.images.specs.declared.init_image.InitFound.{InitFound}
 use Rattle.images.specs.declared.init_image.InitFound.the-variants as found
 use Rattle.images.specs.Numbers.{chipOf}
 use Rattle.images.specs.InitImage.{initFields, initIn}
-use Rattle.ch32_i2c.specs.Init.{dutyOf, begunLeft, initBegin, initHeld, heldLeft, initStep}
+use Rattle.ch32_i2c.specs.Init.{dutyOf, begunLeft, initBegin, inRange, fitting, initHeld, heldLeft, initStep}
 
 -- ---- begin
 
@@ -54,18 +54,25 @@ module _ (b : List ℕ) (chip input frequency duty : ℕ) (n : ℕ) where
 
 -- ---- what a block holds
 
+module _ (f : InitFound) (s : State) (e : f ≡ found.At s) (b : Bool) (q : b ≡ inRange (s .timing)) where
+  pub fits-in : b ≡ true → found.At s ≡ fitting f
+  fits-in t = ap (λ (x : Bool). cond x (found.At s) found.Nothing) (sym t ∙ q) ∙ ap fitting (sym e)
+
+  pub fits-out : b ≡ false → found.Nothing ≡ fitting f
+  fits-out t = ap (λ (x : Bool). cond x (found.At s) found.Nothing) (sym t ∙ q) ∙ ap fitting (sym e)
+
 module _ (b : List ℕ) where
   pub held-short : (length b ≡ blockSize → ⊥) → found.Nothing ≡ initHeld b
   unfolding initHeld
   held-short e = short b _ _ e
 
-  pub held-found : length b ≡ blockSize → (f : Fields) → f ≡ fieldsOf b → (g : InitFound) → g ≡ initIn f → g ≡ initHeld b
+  pub held-found : length b ≡ blockSize → (f : Fields) → f ≡ fieldsOf b → (g : InitFound) → g ≡ initIn f → (k : InitFound) → k ≡ fitting g → k ≡ initHeld b
   unfolding initHeld
-  held-found size f ef g eg = eg ∙ ap initIn ef ∙ whole b (initIn (fieldsOf b)) found.Nothing size
+  held-found size f ef g eg k ek = ek ∙ ap fitting (eg ∙ ap initIn ef) ∙ whole b (fitting (initIn (fieldsOf b))) found.Nothing size
 
   pub held-size : (s : State) → found.At s ≡ initHeld b → length b ≡ blockSize
   unfolding initHeld
-  held-size s e = found-whole b (initIn (fieldsOf b)) found.Nothing (found.At s) (λ k. let z : _≡_ {A = ℕ} 0 1 = cc in omega arith) (sym e)
+  held-size s e = found-whole b (fitting (initIn (fieldsOf b))) found.Nothing (found.At s) (λ k. let z : _≡_ {A = ℕ} 0 1 = cc in omega arith) (sym e)
 
 -- ---- step
 

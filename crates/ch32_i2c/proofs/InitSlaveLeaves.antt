@@ -1,13 +1,13 @@
 -- What begin and step of `init_slave` leave.
 -- Assumes nothing.
-use mathlib.Core.Path.{_≡_, ap, sym, _∙_}
-use mathlib.Core.Bool.{true, false}
+use mathlib.Core.Path.{_≡_, refl, ap, sym, _∙_}
+use mathlib.Core.Bool.{Bool, true, false, cond}
 use mathlib.Core.List.{List, []}
 use Prim.Native.Nat.{ℕ}
 use native.Mathlib.Omega.{arith}
 use lib.ListN.{length}
 use Rattle.access.specs.declared.ending.Error.{Error}
-use Rattle.access.specs.declared.ending.Error.the-variants.{InvalidState, InvalidArgument}
+use Rattle.access.specs.declared.ending.Error.the-variants.{InvalidState, InvalidArgument, InvalidAddress}
 use Rattle.access.specs.declared.next.Next.the-variants as next
 use Rattle.access.specs.Endings.{failed}
 use Rattle.access.specs.Numbers.{nextNumber, HoldsWords}
@@ -19,11 +19,14 @@ use Rattle.slave.specs.declared.init.InitState.{InitState}
 use Rattle.slave.specs.declared.init.InitStepped.{InitStepped}
 use Rattle.slave.specs.declared.init.InitBegun.{InitBegun}
 use Rattle.slave.specs.declared.init.InitBegun.the-variants as begun
-use Rattle.slave.specs.Init.{begin, step}
+use Rattle.slave.specs.Init.{configFault, begin, step}
+use Rattle.slave_driver.specs.declared.config.Validation.{Validation}
+use Rattle.slave_driver.specs.declared.config.Validation.the-variants.{Valid, Refused}
+use Rattle.slave_driver.specs.Validated.{validated}
 use Rattle.images.specs.declared.init_slave_image.InitSlaveFound.{InitSlaveFound}
 use Rattle.images.specs.declared.init_slave_image.InitSlaveFound.the-variants as found
 use Rattle.images.specs.InitSlaveImage.{initSlaveFields, initSlaveIn}
-use Rattle.ch32_i2c.specs.InitSlave.{configOf, unknownFlags, begunLeft, initSlaveBegin, initSlaveHeld, heldLeft, initSlaveStep}
+use Rattle.ch32_i2c.specs.InitSlave.{configOf, unknownFlags, begunLeft, initSlaveBegin, fitting, initSlaveHeld, heldLeft, initSlaveStep}
 
 -- ---- begin
 
@@ -50,18 +53,33 @@ module _ (b : List ℕ) (ten address has second general stretching : ℕ) (n : �
 
 -- ---- what a block holds
 
+module _ (f : InitSlaveFound) (s : InitState) (e : f ≡ found.At s) (v : Validation) (q : v ≡ validated (s .config)) where
+  pub fits-valid : v ≡ Valid → found.At s ≡ fitting f
+  fits-valid t = go (configFault (s .config)) (sym q ∙ t) ∙ ap fitting (sym e)
+    where
+      go : (b : Bool) → cond b (Refused InvalidAddress) Valid ≡ Valid → found.At s ≡ cond b found.Nothing (found.At s)
+      go true k = let z : _≡_ {A = ℕ} 0 1 = cc in absurd (omega arith)
+      go false k = refl
+
+  pub fits-refused : (x : Error) → v ≡ Refused x → found.Nothing ≡ fitting f
+  fits-refused x t = go (configFault (s .config)) (sym q ∙ t) ∙ ap fitting (sym e)
+    where
+      go : (b : Bool) → cond b (Refused InvalidAddress) Valid ≡ Refused x → found.Nothing ≡ cond b found.Nothing (found.At s)
+      go true k = refl
+      go false k = let z : _≡_ {A = ℕ} 0 1 = cc in absurd (omega arith)
+
 module _ (b : List ℕ) where
   pub held-short : (length b ≡ blockSize → ⊥) → found.Nothing ≡ initSlaveHeld b
   unfolding initSlaveHeld
   held-short e = short b _ _ e
 
-  pub held-found : length b ≡ blockSize → (f : Fields) → f ≡ fieldsOf b → (g : InitSlaveFound) → g ≡ initSlaveIn f → g ≡ initSlaveHeld b
+  pub held-found : length b ≡ blockSize → (f : Fields) → f ≡ fieldsOf b → (g : InitSlaveFound) → g ≡ initSlaveIn f → (k : InitSlaveFound) → k ≡ fitting g → k ≡ initSlaveHeld b
   unfolding initSlaveHeld
-  held-found size f ef g eg = eg ∙ ap initSlaveIn ef ∙ whole b (initSlaveIn (fieldsOf b)) found.Nothing size
+  held-found size f ef g eg k ek = ek ∙ ap fitting (eg ∙ ap initSlaveIn ef) ∙ whole b (fitting (initSlaveIn (fieldsOf b))) found.Nothing size
 
   pub held-size : (s : InitState) → found.At s ≡ initSlaveHeld b → length b ≡ blockSize
   unfolding initSlaveHeld
-  held-size s e = found-whole b (initSlaveIn (fieldsOf b)) found.Nothing (found.At s) (λ k. let z : _≡_ {A = ℕ} 0 1 = cc in omega arith) (sym e)
+  held-size s e = found-whole b (fitting (initSlaveIn (fieldsOf b))) found.Nothing (found.At s) (λ k. let z : _≡_ {A = ℕ} 0 1 = cc in omega arith) (sym e)
 
 -- ---- step
 

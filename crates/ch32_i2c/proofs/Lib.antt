@@ -10,6 +10,7 @@ pub mod Recorded
 pub mod PayloadLaws
 pub mod MetEnds
 pub mod HeldLaws
+pub mod InitRange
 pub mod InitCarried
 pub mod TransferCarried
 pub mod TransferStages

@@ -56,10 +56,23 @@ inner false x nothing found other e = absurd (other e)
 image-of : (b : List ℕ) (f : Fields) → length b ≡ blockSize → Bytes b → f ≡ fieldsOf b → bytesOf f ≡ b
 image-of b f size bytes e = ap bytesOf e ∙ bytes-back b size bytes
 
+-- what fits is what was found
+init-fitted : (f : InitFound) (s : timing.State) → init.fitting f ≡ initFound.At s → f ≡ initFound.At s
+init-fitted (initFound.At t) s e = inner (init.inRange (t .timing)) (initFound.At t) initFound.Nothing (initFound.At s) (λ k. let z : _≡_ {A = ℕ} 0 1 = cc in omega arith) e
+init-fitted initFound.Nothing s e = e
+
+init-slave-fitted : (f : InitSlaveFound) (s : InitState) → initSlave.fitting f ≡ initSlaveFound.At s → f ≡ initSlaveFound.At s
+init-slave-fitted (initSlaveFound.At t) s e = go (initSlaveMachine.configFault (t .config)) e
+  where
+    go : (b : Bool) → cond b initSlaveFound.Nothing (initSlaveFound.At t) ≡ initSlaveFound.At s → initSlaveFound.At t ≡ initSlaveFound.At s
+    go true k = let z : _≡_ {A = ℕ} 0 1 = cc in absurd (omega arith)
+    go false k = k
+init-slave-fitted initSlaveFound.Nothing s e = e
+
 init-block : (b : List ℕ) (s : timing.State) → Bytes b → init.initHeld b ≡ initFound.At s → bytesOf (initFields s) ≡ b
 unfolding init.initHeld
 init-block b s bytes e =
-    image-of b (initFields s) (found-whole b (initIn (fieldsOf b)) initFound.Nothing (initFound.At s) (λ k. let z : _≡_ {A = ℕ} 0 1 = cc in omega arith) e) bytes (init-image (fieldsOf b) s (inner (eqb (length b) blockSize) (initIn (fieldsOf b)) initFound.Nothing (initFound.At s) (λ k. let z : _≡_ {A = ℕ} 0 1 = cc in omega arith) e))
+    image-of b (initFields s) (found-whole b (init.fitting (initIn (fieldsOf b))) initFound.Nothing (initFound.At s) (λ k. let z : _≡_ {A = ℕ} 0 1 = cc in omega arith) e) bytes (init-image (fieldsOf b) s (init-fitted (initIn (fieldsOf b)) s (inner (eqb (length b) blockSize) (init.fitting (initIn (fieldsOf b))) initFound.Nothing (initFound.At s) (λ k. let z : _≡_ {A = ℕ} 0 1 = cc in omega arith) e)))
 
 master-block : (entry : ℕ) (b : List ℕ) (s : master.State) → Bytes b → transfer.masterHeld entry b ≡ masterFound.At s → bytesOf (masterFields s) ≡ b
 unfolding transfer.masterHeld
@@ -69,7 +82,7 @@ master-block entry b s bytes e =
 init-slave-block : (b : List ℕ) (s : InitState) → Bytes b → initSlave.initSlaveHeld b ≡ initSlaveFound.At s → bytesOf (initSlaveFields s) ≡ b
 unfolding initSlave.initSlaveHeld
 init-slave-block b s bytes e =
-    image-of b (initSlaveFields s) (found-whole b (initSlaveIn (fieldsOf b)) initSlaveFound.Nothing (initSlaveFound.At s) (λ k. let z : _≡_ {A = ℕ} 0 1 = cc in omega arith) e) bytes (init-slave-image (fieldsOf b) s (inner (eqb (length b) blockSize) (initSlaveIn (fieldsOf b)) initSlaveFound.Nothing (initSlaveFound.At s) (λ k. let z : _≡_ {A = ℕ} 0 1 = cc in omega arith) e))
+    image-of b (initSlaveFields s) (found-whole b (initSlave.fitting (initSlaveIn (fieldsOf b))) initSlaveFound.Nothing (initSlaveFound.At s) (λ k. let z : _≡_ {A = ℕ} 0 1 = cc in omega arith) e) bytes (init-slave-image (fieldsOf b) s (init-slave-fitted (initSlaveIn (fieldsOf b)) s (inner (eqb (length b) blockSize) (initSlave.fitting (initSlaveIn (fieldsOf b))) initSlaveFound.Nothing (initSlaveFound.At s) (λ k. let z : _≡_ {A = ℕ} 0 1 = cc in omega arith) e)))
 
 slave-block : (entry : ℕ) (b : List ℕ) (s : slave.State) → Bytes b → response.slaveHeld entry b ≡ slaveFound.At s → bytesOf (slaveFields s) ≡ b
 unfolding response.slaveHeld

@@ -4,7 +4,7 @@ use mathlib.Core.Path.{_≡_, refl, ap, sym, subst, _∙_}
 use mathlib.Core.Bool.{Bool, true, false, cond, not, _&&_, _||_, true≢false}
 use mathlib.Core.List.{List, [], _∷_, map}
 use mathlib.Core.Option.{Option, none, some}
-use Prim.Native.Nat.{ℕ, _+_, _*_, _/_, _%_, _<_, _≤_}
+use Prim.Native.Nat.{ℕ, _+_, _*_, _%_, _<_, _≤_}
 use native.Mathlib.Omega.{arith}
 use lib.Dec.{eqb, ltb, leb}
 use lib.ListN.{length}
@@ -19,8 +19,7 @@ use Rattle.registers.specs.Word.{hasBit, putBit, bitField, fieldOf, putField}
 use Rattle.registers.specs.Addresses.{addressWord, ownSeven, ownTen, secondAddress}
 use Rattle.registers.proofs.WordLaws.{field-back, field-above, bit-back, bit-other}
 use Rattle.registers.proofs.AddressLaws as addresses
-use Rattle.access.specs.declared.ending.Error.the-variants.{InvalidArgument, InvalidAddress, Overrun, InvalidFrequency, InputTooSlow, DividerTooLarge}
-use Rattle.access.specs.declared.ending.Error.{Error}
+use Rattle.access.specs.declared.ending.Error.the-variants.{InvalidArgument, InvalidAddress, Overrun}
 use Rattle.access.specs.declared.need.Need.{Need}
 use Rattle.access.specs.declared.need.Need.the-variants as need
 use Rattle.access.specs.Program.{Access, read, write, send, clock}
@@ -37,7 +36,7 @@ use Rattle.timing.specs.declared.init.Stage.the-variants as timingStages
 use Rattle.timing.specs.declared.init.State as timingState
 use Rattle.timing.specs.Rust.{timing}
 use Rattle.timing.specs.Machine as initMachine
-use Rattle.timing.specs.Document.{Least, SlowEnough, Documented, AsDocumented, settled, firstCause, factor, fast, mhz}
+use Rattle.timing.specs.Document.{Least, SlowEnough, Documented, AsDocumented, settled, firstCause, mhz}
 use Rattle.timing.proofs.Documented.{documented}
 use Rattle.master.specs.declared.call.Call.{Call}
 use Rattle.master.specs.declared.call.Kind.{Kind}
@@ -60,8 +59,10 @@ use Rattle.ch32_i2c.specs.Manual.{Rule, Keeps, AddressWord, to-write, to
 use Rattle.ch32_i2c.specs.Init as cInit
 use Rattle.ch32_i2c.specs.InitSlave as cInitSlave
 use Rattle.ch32_i2c.specs.Demands.{timedRefusal}
+use Rattle.ch32_i2c.proofs.InitRange.{divider-small}
+use Rattle.ch32_i2c.proofs.InitCarried.{settings-stay, config-stays}
 use Rattle.ch32_i2c.proofs.TransferStages.{isPlain, by-stage}
-use Rattle.ch32_i2c.proofs.CallsRun.{call-shown, init-shown, shownTimed}
+use Rattle.ch32_i2c.proofs.CallsRun.{call-shown, config-passed, init-shown, shownTimed}
 
 -- ---- a rule for all that is shown
 
@@ -177,10 +178,6 @@ second-false : (a b : Bool) → a || b ≡ false → b ≡ false
 second-false true b q = absurd (true≢false q)
 second-false false b q = q
 
-passed-fault : (b : Bool) → cond b (some InvalidAddress) none ≡ none → b ≡ false
-passed-fault true q = let z : _≡_ {A = ℕ} 0 1 = cc in absurd (omega arith)
-passed-fault false q = refl
-
 module _ (ten a has second general stretching : ℕ) where
   abbrev config : SlaveConfig
   config = cInitSlave.configOf ten a has second general stretching
@@ -202,7 +199,7 @@ module _ (ten a has second general stretching : ℕ) where
 
   module _ (accepted : initSlaveMachine.initRefusal config ≡ none) where
     no-fault : initSlaveMachine.configFault config ≡ false
-    no-fault = passed-fault (initSlaveMachine.configFault config) accepted
+    no-fault = config-passed config accepted
 
     own-passed : initSlaveMachine.ownFault (config .address) (config .«general_call») ≡ false
     unfolding initSlaveMachine.configFault
@@ -223,21 +220,6 @@ module _ (ten a has second general stretching : ℕ) where
     config-obeys initStage.EnableWrite s e = tt
     config-obeys initStage.Ended s e = tt
 
-    config-stays : (st : InitStage) (s : InitState) (x : ℕ) → initSlaveMachine.advanceAt st s x .config ≡ s .config
-    config-stays initStage.DisableRead s x = refl
-    config-stays initStage.DisableWrite s x = refl
-    config-stays initStage.BufferRead s x = refl
-    config-stays initStage.BufferWrite s x = refl
-    config-stays initStage.Own s x = refl
-    config-stays initStage.Second s x = refl
-    config-stays initStage.EnableRead s x = refl
-    config-stays initStage.EnableWrite s x = refl
-    config-stays initStage.Ended s x = refl
-
-    moved-config : (s : InitState) (x : ℕ) → s .config ≡ config → initSlaveMachine.advance s x .config ≡ config
-    unfolding initSlaveMachine.advance
-    moved-config s x e = config-stays (s .stage) s x ∙ e
-
     owed-config : (s : InitState) → s .config ≡ config → ObeyNeed (owning ten a has second) (initSlaveMachine.owed s)
     unfolding initSlaveMachine.owed
     owed-config s e = config-obeys (s .stage) s e
@@ -245,62 +227,22 @@ module _ (ten a has second general stretching : ℕ) where
     pub init-slave-obeys : (answers : List ℕ) → Obey (owning ten a has second) (initShown config answers .events)
     init-slave-obeys answers =
         subst (λ (s : Shown). Obey (owning ten a has second) (s .events)) (init-shown config accepted answers)
-        (shown-obeys (owning ten a has second) initSlaveMachine.initMachine [] (λ s. s .config ≡ config) moved-config owed-config (initSlaveMachine.started config) refl answers)
+        (shown-obeys (owning ten a has second) initSlaveMachine.initMachine [] (λ s. s .config ≡ config) (λ s x e. config-stays s x ∙ e) owed-config (initSlaveMachine.started config) refl answers)
 
 -- ---- init
-
-last-cause : (a b c : Bool) (x y z : Error) → cond a (some x) (cond b (some y) (cond c (some z) none)) ≡ none → c ≡ false
-last-cause true b c x y z q = let y : _≡_ {A = ℕ} 0 1 = cc in absurd (omega arith)
-last-cause false true c x y z q = let y : _≡_ {A = ℕ} 0 1 = cc in absurd (omega arith)
-last-cause false false true x y z q = let y : _≡_ {A = ℕ} 0 1 = cc in absurd (omega arith)
-last-cause false false false x y z q = refl
 
 -- a bit above a field that is written stays
 bit-above : (f : Field) (n v w : ℕ) → f .at + f .size ≤ n → hasBit n (putField f v w) ≡ hasBit n w
 unfolding hasBit fieldOf
 bit-above f n v w h = ap (λ (x : ℕ). eqb x 1) (field-above f (bitField n) v w h)
 
-stage-settings : (st : timingStage.Stage) (s : timingState.State) (a : ℕ) → initMachine.advanceAt st s a .timing ≡ s .timing
-stage-settings timingStages.DisableRead s a = refl
-stage-settings timingStages.DisableWrite s a = refl
-stage-settings timingStages.ResetRead s a = refl
-stage-settings timingStages.ResetWrite s a = refl
-stage-settings timingStages.ReleaseRead s a = refl
-stage-settings timingStages.ReleaseWrite s a = refl
-stage-settings timingStages.FrequencyRead s a = refl
-stage-settings timingStages.FrequencyWrite s a = go (s .chip .«i2c_v3»)
-  where
-    go : (b : Bool) → cond b (initMachine.to timingStages.RiseWrite s) (initMachine.to timingStages.ClockWrite s) .timing ≡ s .timing
-    go true = refl
-    go false = refl
-stage-settings timingStages.RiseWrite s a = refl
-stage-settings timingStages.ClockWrite s a = refl
-stage-settings timingStages.EnableRead s a = refl
-stage-settings timingStages.EnableWrite s a = refl
-stage-settings timingStages.Ended s a = refl
-
-settings-stay : (s : timingState.State) (a : ℕ) → initMachine.advance s a .timing ≡ s .timing
-unfolding initMachine.advance
-settings-stay s a = stage-settings (s .stage) s a
-
 module _ (chip : Chip) (input frequency : ℕ) (duty : Duty) (t : Timing) (none-holds : firstCause chip input frequency duty ≡ none) (d : Documented chip input frequency duty t) where
-  -- 4095 reaches the input clock, so the least divider is no larger
-  divider-small : t .divider ≤ 4095
-  divider-small =
-      let h : input ≤ 4095 * factor (fast chip input frequency duty) duty * frequency =
-      ltb-false (4095 * factor (fast chip input frequency duty) duty * frequency) input (last-cause (eqb frequency 0 || ltb 400_000 frequency) (chip .ch32v4 && ltb (input / 1_000_000) 4) (ltb (4095 * factor (fast chip input frequency duty) duty * frequency) input) InvalidFrequency InputTooSlow DividerTooLarge none-holds) in
-      d .divider .least 4095 (record { reaches = h; allowed = floor-small (fast chip input frequency duty) })
-    where
-      floor-small : (b : Bool) → cond b 1 4 ≤ 4095
-      floor-small true = omega arith
-      floor-small false = omega arith
-
   clock-told : ClockWord chip input frequency duty (initMachine.clockWord t)
   clock-told =
       let w = putBit DUTY (t .duty) (putBit «F_S» (t .fast) 0) in
       let back : fieldOf CCR (initMachine.clockWord t) ≡ t .divider % 4096 = field-back CCR (t .divider) w in
       record {
-        divider = subst (Least (SlowEnough chip input frequency duty)) (let z : t .divider ≡ t .divider % 4096 = omega (arith, divider-small) in z ∙ sym back) (d .divider);
+        divider = subst (Least (SlowEnough chip input frequency duty)) (let z : t .divider ≡ t .divider % 4096 = omega (arith, divider-small chip input frequency duty t none-holds d) in z ∙ sym back) (d .divider);
         speed = bit-above CCR «F_S» (t .divider) w (omega arith) ∙ bit-other «F_S» DUTY (t .duty) (putBit «F_S» (t .fast) 0) (λ e. omega (arith, e)) ∙ bit-back «F_S» (t .fast) 0 ∙ d .speed;
         duty-bit = bit-above CCR DUTY (t .divider) w (omega arith) ∙ bit-back DUTY (t .duty) (putBit «F_S» (t .fast) 0) ∙ d .duty-bit;
       }

@@ -1,13 +1,14 @@
 -- `init`: what begin and step leave. No bytes are read.
-use mathlib.Core.Bool.{cond, _||_}
+use mathlib.Core.Bool.{Bool, cond, _&&_, _||_}
 use mathlib.Core.List.{List, []}
 use Prim.Native.Nat.{ℕ}
-use lib.Dec.{eqb, ltb}
+use lib.Dec.{eqb, leb, ltb}
 use lib.ListN.{length}
 use Rattle.access.specs.declared.ending.Error.the-variants.{InvalidState, InvalidArgument}
 use Rattle.block.specs.Bytes32.{blockSize, fieldsOf, bytesOf}
 use Rattle.timing.specs.declared.settings.Duty.{Duty}
 use Rattle.timing.specs.declared.settings.Duty.the-variants.{«Duty2_1», «Duty16_9»}
+use Rattle.timing.specs.declared.settings.Timing.{Timing}
 use Rattle.timing.specs.declared.init.Stepped.{Stepped}
 use Rattle.timing.specs.declared.init.Begun.{Begun}
 use Rattle.timing.specs.declared.init.Begun.the-variants as begun
@@ -35,9 +36,18 @@ initBegin block chip input frequency duty =
     (cond (ltb 3 chip || ltb 1 duty) (refusedWith InvalidArgument block []) (begunLeft (begin (chipOf chip) input frequency (dutyOf duty)) block))
     (refusedWith InvalidState block [])
 
+-- a divider that begin can have found: 4, or fast 1, to 4095
+abbrev pub inRange : Timing → Bool
+inRange t = leb (cond (t .fast) 1 4) (t .divider) && leb (t .divider) 4095
+
+-- a state with another divider is none
+abbrev pub fitting : InitFound → InitFound
+fitting (At s) = cond (inRange (s .timing)) (At s) Nothing
+fitting Nothing = Nothing
+
 -- the state that a block holds
 unfoldable pub initHeld : List ℕ → InitFound
-initHeld block = cond (eqb (length block) blockSize) (initIn (fieldsOf block)) Nothing
+initHeld block = cond (eqb (length block) blockSize) (fitting (initIn (fieldsOf block))) Nothing
 
 abbrev pub heldLeft : InitFound → List ℕ → ℕ → Left
 heldLeft (At s) block a = initLeft (step s a)

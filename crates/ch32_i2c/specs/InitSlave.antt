@@ -10,7 +10,7 @@ use Rattle.slave.specs.declared.config.SlaveConfig.{SlaveConfig}
 use Rattle.slave.specs.declared.init.InitStepped.{InitStepped}
 use Rattle.slave.specs.declared.init.InitBegun.{InitBegun}
 use Rattle.slave.specs.declared.init.InitBegun.the-variants as begun
-use Rattle.slave.specs.Init.{begin, step}
+use Rattle.slave.specs.Init.{configFault, begin, step}
 use Rattle.images.specs.declared.init_slave_image.InitSlaveFound.{InitSlaveFound}
 use Rattle.images.specs.declared.init_slave_image.InitSlaveFound.the-variants.{At, Nothing}
 use Rattle.images.specs.InitSlaveImage.{addressOf, secondOf, initSlaveFields, initSlaveIn}
@@ -43,9 +43,14 @@ initSlaveBegin block ten address has second general stretching =
     (cond (unknownFlags ten has general stretching) (refusedWith InvalidArgument block []) (begunLeft (begin (configOf ten address has second general stretching)) block))
     (refusedWith InvalidState block [])
 
+-- a state whose configuration begin would refuse is none
+abbrev pub fitting : InitSlaveFound → InitSlaveFound
+fitting (At s) = cond (configFault (s .config)) Nothing (At s)
+fitting Nothing = Nothing
+
 -- the state that a block holds
 unfoldable pub initSlaveHeld : List ℕ → InitSlaveFound
-initSlaveHeld block = cond (eqb (length block) blockSize) (initSlaveIn (fieldsOf block)) Nothing
+initSlaveHeld block = cond (eqb (length block) blockSize) (fitting (initSlaveIn (fieldsOf block))) Nothing
 
 abbrev pub heldLeft : InitSlaveFound → List ℕ → ℕ → Left
 heldLeft (At s) block a = initSlaveLeft (step s a)

@@ -1,13 +1,13 @@
 // `init`.
 ghost use mathlib.Core.Path.{_≡_};
-ghost use mathlib.Core.Bool.{_||_};
+ghost use mathlib.Core.Bool.{cond, _||_};
 ghost use lib.Dec.{ltb};
 ghost use lib.ListN.{length};
 ghost use Rattle.access.specs.Numbers.{nextNumber, HoldsWords};
 ghost use Rattle.block.specs.Bytes32.{bytesOf, blockSize};
 ghost use Rattle.images.specs.InitImage.{initFields};
 ghost use Rattle.ch32_i2c.specs.Left.{LeavesBlock};
-ghost use Rattle.ch32_i2c.specs.Init.{dutyOf, initBegin, initHeld, initStep};
+ghost use Rattle.ch32_i2c.specs.Init.{dutyOf, initBegin, inRange, fitting, initHeld, initStep};
 use crate::left;
 use access::Error;
 use block::bytes32;
@@ -18,6 +18,7 @@ use timing::init;
 use timing::init::Begun;
 use timing::init::Stepped;
 use timing::settings::Duty;
+use timing::settings::Timing;
 
 fn duty_of(number: u8) -> Duty
     ensures { λ r. ⌜ r ≡ dutyOf number ⌝ }
@@ -71,6 +72,36 @@ pub extern "C" fn ch32_i2c_init_begin(
     }
 }
 
+fn floor(fast: bool) -> u16
+    ensures { λ r. ⌜ r ≡ cond fast 1 4 ⌝ }
+{
+    if fast { 1 } else { 4 }
+}
+
+// A divider that begin can have found: 4, or fast 1, to 4095.
+fn in_range(timing: Timing) -> bool
+    ensures { λ r. ⌜ r ≡ inRange timing ⌝ }
+{
+    (floor(timing.fast) <= timing.divider) & (timing.divider <= 4095)
+}
+
+// A state with another divider is none.
+fn fitting(found: InitFound) -> InitFound
+    ensures { λ r. ⌜ r ≡ fitting found ⌝ }
+{
+    match found {
+        InitFound::At(state) => {
+            let timing = state.timing;
+            if in_range(timing) {
+                InitFound::At(state)
+            } else {
+                InitFound::Nothing
+            }
+        }
+        InitFound::Nothing => InitFound::Nothing,
+    }
+}
+
 // The state that a block holds.
 fn held(block: &[u8]) -> InitFound
     ensures { λ r. ⌜ r ≡ initHeld (now (block .entry)) ⌝ }
@@ -78,7 +109,7 @@ fn held(block: &[u8]) -> InitFound
     if block.len() != bytes32::BLOCK_SIZE {
         return InitFound::Nothing;
     }
-    init_image::init_in(bytes32::fields(block))
+    fitting(init_image::init_in(bytes32::fields(block)))
 }
 
 #[no_mangle]

@@ -5,7 +5,7 @@ ghost use Rattle.access.specs.Numbers.{nextNumber, HoldsWords};
 ghost use Rattle.block.specs.Bytes32.{bytesOf, blockSize};
 ghost use Rattle.images.specs.InitSlaveImage.{initSlaveFields};
 ghost use Rattle.ch32_i2c.specs.Left.{LeavesBlock};
-ghost use Rattle.ch32_i2c.specs.InitSlave.{configOf, unknownFlags, initSlaveBegin, initSlaveHeld, initSlaveStep};
+ghost use Rattle.ch32_i2c.specs.InitSlave.{configOf, unknownFlags, initSlaveBegin, fitting, initSlaveHeld, initSlaveStep};
 use crate::left;
 use access::Error;
 use block::bytes32;
@@ -14,6 +14,8 @@ use images::init_slave_image::InitSlaveFound;
 use slave::SlaveConfig;
 use slave::init::InitBegun;
 use slave::init::InitStepped;
+use slave_driver::config;
+use slave_driver::config::Validation;
 use slave_driver::init;
 
 // The configuration that C's numbers mean.
@@ -80,6 +82,22 @@ pub extern "C" fn ch32_i2c_init_slave_begin(
     }
 }
 
+// A state whose configuration begin would refuse is none.
+fn fitting(found: InitSlaveFound) -> InitSlaveFound
+    ensures { λ r. ⌜ r ≡ fitting found ⌝ }
+{
+    match found {
+        InitSlaveFound::At(state) => {
+            let config = state.config;
+            match config::validate(config) {
+                Validation::Valid => InitSlaveFound::At(state),
+                Validation::Refused(_) => InitSlaveFound::Nothing,
+            }
+        }
+        InitSlaveFound::Nothing => InitSlaveFound::Nothing,
+    }
+}
+
 // The state that a block holds.
 fn held(block: &[u8]) -> InitSlaveFound
     ensures { λ r. ⌜ r ≡ initSlaveHeld (now (block .entry)) ⌝ }
@@ -87,7 +105,7 @@ fn held(block: &[u8]) -> InitSlaveFound
     if block.len() != bytes32::BLOCK_SIZE {
         return InitSlaveFound::Nothing;
     }
-    init_slave_image::init_slave_in(bytes32::fields(block))
+    fitting(init_slave_image::init_slave_in(bytes32::fields(block)))
 }
 
 #[no_mangle]
