@@ -64,7 +64,7 @@ use Rattle.ch32_i2c.specs.Transfer.{callOf, masterBegin}
 use Rattle.ch32_i2c.specs.Transfer as cTransfer
 use Rattle.ch32_i2c.specs.InitSlave as cInitSlave
 use Rattle.ch32_i2c.specs.Response as cResponse
-use Rattle.ch32_i2c.specs.Demands.{Call, init, transaction, writeRead, write, read, initSlave, listen, respondToWrite, respondToRead, entryOf, Reads, unknown, ownRefusal, refusalOf, Accepted, timedRefusal, rust, ours, endAsTheRust, timedShown, theRusts, NoneAdded, IsMet, takes, nothingToDo, Over, Demand1, Demand2, Demand3, SeenAlike, SameRuns, transactions, writeReads, writes, reads, bytesOfRun, writtenRuns, oursAfter, recordAfter, endAfter, struckAfter, Records, runsShown, wordsOf, OfDemand2, RepliesEnd, SeenSame}
+use Rattle.ch32_i2c.specs.Demands.{Call, init, transaction, writeRead, write, read, initSlave, listen, respondToWrite, respondToRead, entryOf, Reads, unknown, ownRefusal, refusalOf, Accepted, timedRefusal, rust, ours, endAsTheRust, timedShown, theRusts, NoneAdded, IsMet, takes, nothingToDo, Over, Demand1, Demand2, Demand3, SeenAlike, SameRuns, transactions, writeReads, writes, reads, bytesOfRun, writtenRuns, oursAfter, recordAfter, endAfter, struckAfter, Records, RecordsRust, runsShown, wordsOf, OfDemand2, RepliesEnd, SeenSame}
 use Rattle.ch32_i2c.proofs.Recorded.{record-is, end-is, struck-same}
 use Rattle.ch32_i2c.proofs.PayloadLaws.{differ-same, Answered, answered, answers-same}
 use Rattle.ch32_i2c.proofs.CallsRun.{parts, Runs, begin-left, response-left, transfer-runs, write-runs, response-runs, unread-runs, init-runs, init-slave-runs, shownTimed, small}
@@ -400,6 +400,7 @@ module _ (c : Call) (block bytes : List ℕ) (k : Reads c bytes) (a : Accepted c
       record {
         record-is = record-is (entryOf c) block bytes answers (shownBy c (length bytes) answers) (r .makes answers) (r .recorded answers);
         end-is = end-is (entryOf c) block bytes answers (shownBy c (length bytes) answers) (r .makes answers) (r .recorded answers);
+        read-is = r .makes answers .read;
       }
 
   seen-ours : (turns : ℕ) (answers : List ℕ) → length answers < turns → Records c block bytes answers (ours turns c (length bytes) answers)
@@ -456,6 +457,16 @@ makes : (c : Call) (block bytes : List ℕ) → Reads c bytes → Accepted c blo
     → Makes (entryOf c) block bytes answers (ours turns c (length bytes) answers)
 makes c block bytes k a turns answers h = subst (λ (s : Shown). Makes (entryOf c) block bytes answers s) (accepted-ours c block bytes a turns answers h) (runs c block bytes k a .makes answers)
 
+rusts : (c : Call) (block bytes : List ℕ) → Reads c bytes → Accepted c block bytes → (turns : ℕ) (answers : List ℕ) → length answers < turns → RecordsRust c block bytes answers (rust turns c (length bytes) answers)
+rusts c block bytes k a turns answers h =
+    let r = seen-ours c block bytes k a turns answers h in
+    let e = sym (as-the-rust c (length bytes) turns answers) in
+    record {
+      record-is = r .record-is ∙ ap recordIn e;
+      end-is = ap (forgetEnd (endAsTheRust c)) (r .end-is) ∙ ap (λ (s : Shown). s .end) e;
+      read-is = r .read-is ∙ ap (λ (s : Shown). stored (s .arrivals) bytes) e;
+    }
+
 -- runs with joined bytes
 ours-join : (chip address : ℕ) (list written : List ℕ) (room : ℕ) → refusal (callOf chip address kind.Transaction) (lentWith list written room) ≡ none → (turns : ℕ) (answers : List ℕ)
     → ours turns (transaction chip address list written) room answers ≡ runsShown (masterOurs.ours (chipOf chip)) turns chip address (joined (cut (operationsOf list) written)) answers
@@ -504,11 +515,7 @@ demand-2 =
       records = seen-ours;
       enough = λ c block bytes a turns answers h. sym (accepted-ours c block bytes a turns answers h) ∙ accepted-ours c block bytes a (suc (length answers)) answers (omega arith);
       as-the-rust = as-the-rust;
-      the-rust's =
-          λ c block bytes k a turns answers h. (
-            seen-ours c block bytes k a turns answers h .record-is ∙ ap recordIn (sym (as-the-rust c (length bytes) turns answers)),
-            makes c block bytes k a turns answers h .read ∙ ap (λ (s : Shown). stored (s .arrivals) bytes) (sym (as-the-rust c (length bytes) turns answers)),
-          );
+      rusts = rusts;
       others = others;
       returns = returns;
       refused = rust-refused;

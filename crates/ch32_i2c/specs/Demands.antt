@@ -41,7 +41,7 @@ use Rattle.access.specs.Machine.{isEnd}
 use Rattle.access.specs.Numbers.{nextNumber, HoldsWords}
 use Rattle.access.specs.Program as program
 use Rattle.access.specs.Record.{Shown, noMore, shownOf, Same, EndsAlike}
-use Rattle.alike.specs.Like.{forgetting}
+use Rattle.alike.specs.Like.{forgetEnd, forgetting}
 use Rattle.errors.specs.AsTheRust.{asTheRust}
 use Rattle.operations.specs.Operations.{operationsOf}
 use Rattle.operations.specs.Runs.{isEmpty}
@@ -237,10 +237,17 @@ leftAfter c block bytes answers = lastFrom (entryOf c) (entryOf c .begin block b
 abbrev pub struckAfter : Call → List ℕ → List ℕ → List ℕ → List StruckSeen
 struckAfter c block bytes answers = struckBy (oursAfter c (length bytes) answers .events) (recordAfter c block bytes answers)
 
--- record and end are those of a text, the owed access and the answers included
+-- what is seen of a call is a text's: the record, the owed access and the answers included; the end; the bytes read
 pub record Records (c : Call) (block bytes answers : List ℕ) (s : Shown) : Type 0 where
   pub record-is : recordAfter c block bytes answers ≡ recordIn s
   pub end-is : endAfter c block bytes answers ≡ s .end
+  pub read-is : leftAfter c block bytes answers .read ≡ stored (s .arrivals) bytes
+
+-- the same of the Rust's text, whose end is ours with what it lacks forgotten
+pub record RecordsRust (c : Call) (block bytes answers : List ℕ) (s : Shown) : Type 0 where
+  pub record-is : recordAfter c block bytes answers ≡ recordIn s
+  pub end-is : forgetEnd (endAsTheRust c) (endAfter c block bytes answers) ≡ s .end
+  pub read-is : leftAfter c block bytes answers .read ≡ stored (s .arrivals) bytes
 
 -- ---- demand 1: one next step, and bad calls refused
 
@@ -311,28 +318,30 @@ pub data Replied (size : ℕ) : Ending → Type 0 where
   with-status : (sent : ℕ) → Replied size (returned (statusNumber (send-status size sent)))
   without-status : (f : Failure) → Replied size (Failed f)
 
+-- "A call handed in, with any address, list, buffers and register answers, has after each answer exactly one next access or one end."
+-- "A bad call is refused by number before any access, with every lent byte unchanged."
 pub record Demand1 : Type 0 where
+  -- begin of a call without a cause hands out an access and leaves a block that a step takes; where there is nothing to do it is done, and leaves
+  -- an ended one
+  pub accepts : (c : Call) (block bytes : List ℕ) → Reads c bytes → Accepted c block bytes → Begins (entryOf c) (takes c) (nothingToDo c) block bytes
+  -- after each answer there is an access, or the end with 0 or 1 to 6: a call that was accepted is refused at no step before its end
+  pub ends : (c : Call) (block bytes : List ℕ) → Reads c bytes → Accepted c block bytes → (answers : List ℕ) → IsMet (endAfter c block bytes answers)
+  -- one end: a step after it answers 15; record and end stay, and so does every lent byte
+  pub over : (c : Call) (block bytes : List ℕ) → Reads c bytes → Accepted c block bytes → (answers more : List ℕ) (e : Ending) → endAfter c block bytes answers ≡ some e → Over c block bytes answers more
   -- a returned number is that of exactly one access or end (every exported contract says that what is handed out holds 16-bit words)
   pub tells : (m n : Next) → HoldsWords m → HoldsWords n → nextNumber m ≡ nextNumber n → m ≡ n
-  -- so are what slave calls are done with: commands by kind, by seven or ten bits and by address; a reply's statuses; counts
+  -- and so is the value of a slave call that is done: commands are told apart by kind, by seven or ten bits and by address, statuses of a reply
+  -- and counts by their numbers; and a listen and a reply end with no others
   pub tells-command : (c d : SlaveCommand) → InBits (c .address) → InBits (d .address) → commandNumber c ≡ commandNumber d → c ≡ d
   pub tells-status : (size₁ sent₁ size₂ sent₂ : ℕ) → statusNumber (send-status size₁ sent₁) ≡ statusNumber (send-status size₂ sent₂) → send-status size₁ sent₁ ≡ send-status size₂ sent₂
   pub tells-count : (m n : ℕ) → nextNumber (next.End (returned m)) ≡ nextNumber (next.End (returned n)) → m ≡ n
-  -- and they end with no others
   pub commanded : (chip : ℕ) (block : List ℕ) → Accepted (listen chip) block [] → (answers : List ℕ) (e : Ending) → endAfter (listen chip) block [] answers ≡ some e → Commanded e
   pub replied : (chip : ℕ) (reply block : List ℕ) → Accepted (respondToRead chip reply) block [] → (answers : List ℕ) (e : Ending) → endAfter (respondToRead chip reply) block [] answers ≡ some e → Replied (length reply) e
-  -- begin refuses with the first cause, and then every lent byte is as before
+  -- a bad call: begin refuses with the first cause, and then every lent byte is as before
   pub refuses : (c : Call) (block bytes : List ℕ) → Reads c bytes → (e : Error) → refusalOf c (length block) (length bytes) ≡ some e → entryOf c .begin block bytes ≡ refusedWith e block bytes
-  -- begin of a call with no cause hands out an access, or is done where there is nothing to do, and leaves a block that a step takes, or an ended one
-  pub accepts : (c : Call) (block bytes : List ℕ) → Reads c bytes → Accepted c block bytes → Begins (entryOf c) (takes c) (nothingToDo c) block bytes
-  -- a step on a block that is taken does not answer 15
-  pub goes : (c : Call) (block bytes : List ℕ) → takes c block bytes ≡ true → (a : ℕ) → (entryOf c .step block bytes a .next ≡ next.End (failed InvalidState)) → ⊥
-  -- a step on any other block, or lent what does not fit, is refused with 15, and every lent byte is as before
+  -- a bad step, on a block that is not taken: it is refused with 15, and every lent byte is as before; no other step answers 15
   pub stops : (c : Call) (block bytes : List ℕ) → Reads c bytes → Bytes block → takes c block bytes ≡ false → (a : ℕ) → entryOf c .step block bytes a ≡ refusedWith InvalidState block bytes
-  -- an accepted call ends with 0 or 1 to 6 alone, so it is refused at no step before its end
-  pub ends : (c : Call) (block bytes : List ℕ) → Reads c bytes → Accepted c block bytes → (answers : List ℕ) → IsMet (endAfter c block bytes answers)
-  -- a step after the end answers 15; record and end stay
-  pub over : (c : Call) (block bytes : List ℕ) → Reads c bytes → Accepted c block bytes → (answers more : List ℕ) (e : Ending) → endAfter c block bytes answers ≡ some e → Over c block bytes answers more
+  pub goes : (c : Call) (block bytes : List ℕ) → takes c block bytes ≡ true → (a : ℕ) → (entryOf c .step block bytes a .next ≡ next.End (failed InvalidState)) → ⊥
 
 -- ---- demand 2: the Rust's accesses
 
@@ -352,39 +361,40 @@ wordsOf (listen chip) = free
 wordsOf (respondToWrite chip) = free
 wordsOf (respondToRead chip reply) = free
 
+-- "The CH32V manual fixes bits, dividers and address words, embedded-hal's rules fix how neighbouring operations join, and the Rust fixes the
+-- rest: same call and same answers, same accesses in order, same end, same bytes read."
 pub record Demand2 : Type 0 where
-  -- an accepted call makes the accesses and the end of our text, and reads the same bytes, for every list of answers
-  pub same : (c : Call) (block bytes : List ℕ) → Reads c bytes → Accepted c block bytes → (turns : ℕ) (answers : List ℕ) → length answers < turns
-      → Makes (entryOf c) block bytes answers (ours turns c (length bytes) answers)
-  -- so its record after any list of answers IS our text's, and so is its end
-  pub records : (c : Call) (block bytes : List ℕ) → Reads c bytes → Accepted c block bytes → (turns : ℕ) (answers : List ℕ) → length answers < turns
-      → Records c block bytes answers (ours turns c (length bytes) answers)
-  -- more turns than answers make no difference
-  pub enough : (c : Call) (block bytes : List ℕ) → Accepted c block bytes → (turns : ℕ) (answers : List ℕ) → length answers < turns → ours turns c (length bytes) answers ≡ oursAfter c (length bytes) answers
-  -- for every list of answers the Rust's accesses and bytes are those of our text, and its end is ours with what it lacks forgotten
-  pub as-the-rust : (c : Call) (room turns : ℕ) (answers : List ℕ) → rust turns c room answers ≡ forgetting (endAsTheRust c) (ours turns c room answers)
-  -- so the record and the bytes read are the Rust's
-  pub the-rust's : (c : Call) (block bytes : List ℕ) → Reads c bytes → Accepted c block bytes → (turns : ℕ) (answers : List ℕ) → length answers < turns
-      → (recordAfter c block bytes answers ≡ recordIn (rust turns c (length bytes) answers)) × (leftAfter c block bytes answers .read ≡ stored (rust turns c (length bytes) answers .arrivals) bytes)
-  -- nothing is forgotten of an end that no error check decided
-  pub others : (c : Call) (e : Error) → endAsTheRust c (failed e) ≡ failed e
-  pub returns : (c : Call) (v : ℕ) → endAsTheRust c (returned v) ≡ returned v
-  -- a call whose first cause is 6 or 9 is refused by the Rust with the same error, before any access
-  pub refused : (c : Call) (room : ℕ) (e : Error) → ownRefusal c room ≡ some e → theRusts e ≡ true → (turns : ℕ) (answers : List ℕ) → length answers < turns
-      → rust turns c room answers ≡ noMore (some (failed e))
-  -- and a call that is refused without an added cause has no other first cause
-  pub unadded : (c : Call) (room : ℕ) (e : Error) → NoneAdded c room → ownRefusal c room ≡ some e → theRusts e ≡ true
-  -- embedded-hal's rules fix how neighbouring operations join: the record of an accepted transaction is that of its runs, each with its bytes
-  -- joined; and so is the Rust's. Whatever the error check and the address phase are (`RunsJoin`)
+  -- the manual (bits are named in crate registers alone): each word that an accepted call writes, payload apart, keeps the rule for its register
+  pub words : (c : Call) (block bytes : List ℕ) → Reads c bytes → Accepted c block bytes → (answers : List ℕ) → Keeps (wordsOf c) (struckAfter c block bytes answers)
+  -- embedded-hal: an accepted transaction makes what its runs make, each with its bytes joined; so does the Rust; and so does the text with any
+  -- other error check and address phase
   pub joins : (chip address : ℕ) (list written block bytes : List ℕ) → Accepted (transaction chip address list written) block bytes → (turns : ℕ) (answers : List ℕ) → length answers < turns
       → Records (transaction chip address list written) block bytes answers (runsShown (parts.ours (chipOf chip)) turns chip address (joined (cut (operationsOf list) written)) answers)
   pub rust-joins : (chip address : ℕ) (list written block bytes : List ℕ) → Accepted (transaction chip address list written) block bytes → (turns : ℕ) (answers : List ℕ)
       → rust turns (transaction chip address list written) (length bytes) answers ≡ runsShown (theRust (chipOf chip)) turns chip address (joined (cut (operationsOf list) written)) answers
   pub joins-with : RunsJoin
-  -- the manual fixes dividers and address words: each word that an accepted call writes, payload apart, is document 01's
-  pub words : (c : Call) (block bytes : List ℕ) → Reads c bytes → Accepted c block bytes → (answers : List ℕ) → Keeps (wordsOf c) (struckAfter c block bytes answers)
+  -- the rest: an accepted call hands out the accesses and the end of our text one by one, and reads the same bytes, for every list of answers
+  pub same : (c : Call) (block bytes : List ℕ) → Reads c bytes → Accepted c block bytes → (turns : ℕ) (answers : List ℕ) → length answers < turns
+      → Makes (entryOf c) block bytes answers (ours turns c (length bytes) answers)
+  -- so its record after any list of answers IS our text's, and so are its end and the bytes read. More turns than answers make no difference
+  pub records : (c : Call) (block bytes : List ℕ) → Reads c bytes → Accepted c block bytes → (turns : ℕ) (answers : List ℕ) → length answers < turns
+      → Records c block bytes answers (ours turns c (length bytes) answers)
+  pub enough : (c : Call) (block bytes : List ℕ) → Accepted c block bytes → (turns : ℕ) (answers : List ℕ) → length answers < turns → ours turns c (length bytes) answers ≡ oursAfter c (length bytes) answers
+  -- and the Rust's: its accesses and bytes are those of our text, and its end is ours with what it lacks forgotten
+  pub as-the-rust : (c : Call) (room turns : ℕ) (answers : List ℕ) → rust turns c room answers ≡ forgetting (endAsTheRust c) (ours turns c room answers)
+  pub rusts : (c : Call) (block bytes : List ℕ) → Reads c bytes → Accepted c block bytes → (turns : ℕ) (answers : List ℕ) → length answers < turns
+      → RecordsRust c block bytes answers (rust turns c (length bytes) answers)
+  -- nothing is forgotten of an end that no error check decided
+  pub others : (c : Call) (e : Error) → endAsTheRust c (failed e) ≡ failed e
+  pub returns : (c : Call) (v : ℕ) → endAsTheRust c (returned v) ≡ returned v
+  -- a call whose first cause is 6 or 9 is refused by the Rust with the same error, before any access; without an added cause there is no other
+  pub refused : (c : Call) (room : ℕ) (e : Error) → ownRefusal c room ≡ some e → theRusts e ≡ true → (turns : ℕ) (answers : List ℕ) → length answers < turns
+      → rust turns c room answers ≡ noMore (some (failed e))
+  pub unadded : (c : Call) (room : ℕ) (e : Error) → NoneAdded c room → ownRefusal c room ≡ some e → theRusts e ≡ true
 
 -- ---- demand 3: no payload in the record
+
+-- "steps refused after the end included": a list of answers may go on behind the end (`over` of demand 1)
 
 -- record, struck and unstruck, and end are those of demand 2. Both records are equally long, so that no access could hide behind the end of
 -- layer 1's
@@ -443,20 +453,25 @@ pub record SeenSame (c₁ c₂ : Call) (b₁ r₁ b₂ r₂ xs ys : List ℕ) : 
   pub records : (i : ℕ) → recordAfter c₁ b₁ r₁ (take i xs) ≡ recordAfter c₂ b₂ r₂ (take i ys)
   pub ends : (i : ℕ) → endAfter c₁ b₁ r₁ (take i xs) ≡ endAfter c₂ b₂ r₂ (take i ys)
 
+-- "Nobody who records all accesses of a call, payload values struck out, can learn its payload."
 pub record Demand3 : Type 0 where
-  -- transfers; answers that differ only where the first call owes a payload read
+  -- "Take any two accepted master transfers (transactions, write-reads or frames) of one kind, chip and address, whose runs agree in direction
+  -- and total length, divided into operations in any way. For every two lists of answers, equal except at payload reads and fed step by step
+  -- from begin on, struck records and ends are equal after begin and after each step, and are those of demand 2."
   pub transfers : (c₁ c₂ : Call) (b₁ r₁ b₂ r₂ : List ℕ) → SameRuns c₁ (length r₁) c₂ (length r₂) → Reads c₁ r₁ → Reads c₂ r₂ → Accepted c₁ b₁ r₁ → Accepted c₂ b₂ r₂
       → (xs ys : List ℕ) → DifferAtPayload (recordAfter c₁ b₁ r₁ xs) xs ys → SeenAlike Same c₁ c₂ b₁ r₁ b₂ r₂ xs ys
-  -- the payloads agree too: unstruck records are equal
+  -- "If payloads agree too, unstruck records are equal; in any case each is demand 2's."
   pub transfers-whole : (c₁ c₂ : Call) (b₁ r₁ b₂ r₂ : List ℕ) → SameRuns c₁ (length r₁) c₂ (length r₂) → Reads c₁ r₁ → Reads c₂ r₂ → Accepted c₁ b₁ r₁ → Accepted c₂ b₂ r₂
       → (xs ys : List ℕ) → DifferAtPayload (recordAfter c₁ b₁ r₁ xs) xs ys → PayloadsAgree c₁ c₂ b₁ r₁ b₂ r₂ xs ys → SeenSame c₁ c₂ b₁ r₁ b₂ r₂ xs ys
-  -- receives of one chip and buffer length
+  -- "All this holds as well for any two accepted slave receives of one chip and buffer length."
   pub receives : (chip : ℕ) (b₁ r₁ b₂ r₂ : List ℕ) → length r₁ ≡ length r₂ → Accepted (respondToWrite chip) b₁ r₁ → Accepted (respondToWrite chip) b₂ r₂
       → (xs ys : List ℕ) → DifferAtPayload (recordAfter (respondToWrite chip) b₁ r₁ xs) xs ys → SeenAlike Same (respondToWrite chip) (respondToWrite chip) b₁ r₁ b₂ r₂ xs ys
   pub receives-whole : (chip : ℕ) (b₁ r₁ b₂ r₂ : List ℕ) → length r₁ ≡ length r₂ → Accepted (respondToWrite chip) b₁ r₁ → Accepted (respondToWrite chip) b₂ r₂
       → (xs ys : List ℕ) → DifferAtPayload (recordAfter (respondToWrite chip) b₁ r₁ xs) xs ys → PayloadsAgree (respondToWrite chip) (respondToWrite chip) b₁ r₁ b₂ r₂ xs ys
       → SeenSame (respondToWrite chip) (respondToWrite chip) b₁ r₁ b₂ r₂ xs ys
-  -- replies at one chip, whatever their bytes and lengths, and the same answers; at equal lengths the ends too
+  -- "For any two accepted slave replies at one chip, whatever their bytes and lengths, and every list of answers, the same fed to both, struck
+  -- records are equal after begin and after each step, so that beside payload values only the end may depend on the length; at equal lengths
+  -- ends are equal too. Records, unstruck as well, and ends are those of demand 2."
   pub replies : (chip : ℕ) (reply₁ reply₂ b₁ b₂ : List ℕ) → Accepted (respondToRead chip reply₁) b₁ [] → Accepted (respondToRead chip reply₂) b₂ [] → (answers : List ℕ)
       → SeenAlike (RepliesEnd (length reply₁) (length reply₂)) (respondToRead chip reply₁) (respondToRead chip reply₂) b₁ [] b₂ [] answers answers
   pub replies-of-one-length : (chip : ℕ) (reply₁ reply₂ b₁ b₂ : List ℕ) → length reply₁ ≡ length reply₂ → Accepted (respondToRead chip reply₁) b₁ [] → Accepted (respondToRead chip reply₂) b₂ []
