@@ -1,6 +1,6 @@
 -- Begin of an accepted call hands out an access, or is done where there is nothing to do, and leaves a block that a step takes.
 -- Assumes nothing.
-use mathlib.Core.Path.{_≡_, refl, ap, sym, subst, _∙_}
+use mathlib.Core.Path.{_≡_, refl, ap, subst, _∙_}
 use mathlib.Core.Bool.{Bool, true, false, cond, not, _&&_, _||_, true≢false}
 use mathlib.Core.List.{List, [], _∷_}
 use mathlib.Core.Option.{none}
@@ -11,7 +11,6 @@ use lib.ListN.{length}
 use borrow.Author.Tests.{ne-eqb}
 use Rattle.access.specs.declared.need.Need.{Need}
 use Rattle.access.specs.declared.need.Need.the-variants as need
-use Rattle.access.specs.declared.next.Next.the-variants as next
 use Rattle.access.specs.Endings.{done}
 use Rattle.access.specs.Machine.{filled, isEnd}
 use Rattle.operations.specs.Operations.{isRead, directionOf, wordOf, operationsOf, shaped}
@@ -57,6 +56,7 @@ use Rattle.ch32_i2c.specs.Transfer.{callOf, masterHeld}
 use Rattle.ch32_i2c.specs.InitSlave as cInitSlave
 use Rattle.ch32_i2c.specs.Response.{slaveHeld}
 use Rattle.ch32_i2c.specs.Demands.{init, initSlave, entryOf, takes, timedRefusal, takesInit, takesTransfer, takesInitSlave, takesResponse}
+use Rattle.ch32_i2c.proofs.Carried.{filled-end}
 use Rattle.ch32_i2c.proofs.HeldLaws.{init-held, master-held, init-slave-held, slave-held}
 use Rattle.ch32_i2c.proofs.InitCarried.{InitFit, initImage, InitSlaveFit, initSlaveImage}
 use Rattle.ch32_i2c.proofs.InitRange.{settled-range}
@@ -72,15 +72,6 @@ Starts false n = isEnd n ≡ false
 starts-end : (b : Bool) (n : Need) → Starts b n → isEnd n ≡ b
 starts-end true n s = ap isEnd s
 starts-end false n s = s
-
-filled-end : (bytes : List ℕ) (n : Need) → fed.isEnd (filled bytes n) ≡ isEnd n
-filled-end bytes (need.Read x) = refl
-filled-end bytes (need.Write x v) = refl
-filled-end bytes need.Clock = refl
-filled-end bytes (need.Send p) = refl
-filled-end bytes (need.Keep p) = refl
-filled-end bytes need.Drop = refl
-filled-end bytes (need.End e) = refl
 
 -- begin leaves the image of a state that owes n
 module _ (e : Entry) (takes : List ℕ → List ℕ → Bool) (block bytes written image : List ℕ) (n : Need) (b : e .begin block bytes ≡ left (filled written n) image bytes) (t : takes image bytes ≡ not (isEnd n)) where

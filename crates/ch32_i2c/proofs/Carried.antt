@@ -85,6 +85,16 @@ ended-stored bytes (need.Keep p) a rest r e = absurd (true≢false (sym e))
 ended-stored bytes need.Drop a rest r e = absurd (true≢false (sym e))
 ended-stored bytes (need.End x) a rest r e = refl
 
+-- what is handed out for an end, and for what is none
+pub filled-end : (bytes : List ℕ) (n : Need) → fed.isEnd (filled bytes n) ≡ isEnd n
+filled-end bytes (need.Read x) = refl
+filled-end bytes (need.Write x v) = refl
+filled-end bytes need.Clock = refl
+filled-end bytes (need.Send p) = refl
+filled-end bytes (need.Keep p) = refl
+filled-end bytes need.Drop = refl
+filled-end bytes (need.End e) = refl
+
 -- what is shown of an end, and of what is none
 pub owed-end : (bytes : List ℕ) (n : Need) (x : Ending) → seenOwed bytes n .end ≡ some x → isEnd n ≡ true
 owed-end bytes (need.Read y) x q = let z : _≡_ {A = ℕ} 0 1 = cc in absurd (omega arith)
@@ -167,15 +177,6 @@ module _ {m : Machine} {bytes : List ℕ} {room : ℕ} {c : Entry} {image : m .S
   still-ended s r g l e (a ∷ a′ ∷ answers) =
       ((λ _. k .ended s r a g l e), subst (λ (h : Left). EndsStill (leftsFrom c h (a′ ∷ answers))) (sym (k .ended s r a g l e)) (still-ended s r g l e (a′ ∷ answers)))
 
-  filled-end : (n : Need) → fed.isEnd (filled bytes n) ≡ isEnd n
-  filled-end (need.Read x) = refl
-  filled-end (need.Write x v) = refl
-  filled-end need.Clock = refl
-  filled-end (need.Send p) = refl
-  filled-end (need.Keep p) = refl
-  filled-end need.Drop = refl
-  filled-end (need.End e) = refl
-
   -- the first of a list of what is left
   first-still : (h : Left) (rest : List ℕ) (x : Left) → (fed.isEnd (x .next) ≡ true → h ≡ refusedWith InvalidState (x .block) (x .read)) → EndsStill (leftsFrom c h rest) → Still x (leftsFrom c h rest)
   first-still h [] x p q = (p, tt)
@@ -187,7 +188,7 @@ module _ {m : Machine} {bytes : List ℕ} {room : ℕ} {c : Entry} {image : m .S
     where
       go : (b : Bool) → isEnd (m .need s) ≡ b → EndsStill (leftsFrom c (leftAt (m .move s a) (kept (m .need s) a r)) answers) → Still (leftAt s r) (leftsFrom c (c .step (image s) r a) answers)
       go false e h =
-          first-still (c .step (image s) r a) answers (leftAt s r) (λ z. absurd (true≢false (sym z ∙ filled-end (m .need s) ∙ e)))
+          first-still (c .step (image s) r a) answers (leftAt s r) (λ z. absurd (true≢false (sym z ∙ filled-end bytes (m .need s) ∙ e)))
           (subst (λ (x : Left). EndsStill (leftsFrom c x answers)) (sym (k .taken s r a g l e)) h)
       go true e h =
           first-still (c .step (image s) r a) answers (leftAt s r) (λ _. k .ended s r a g l e) (subst (λ (x : Left). EndsStill (leftsFrom c x answers)) (sym (k .ended s r a g l e)) (still-ended s r g l e answers))

@@ -44,10 +44,9 @@ use Rattle.master.proofs.OursIsTheRust as masterIs
 use Rattle.master.proofs.Secret.{master-is-secret}
 use Rattle.slave.specs.declared.config.SlaveConfig.{SlaveConfig}
 use Rattle.slave.specs.declared.state.Kind as slave
-use Rattle.slave.specs.Machine as slaveMachine
 use Rattle.slave.specs.declared.state.Kind.the-variants.{Listen, RespondToWrite, RespondToRead}
 use Rattle.slave.specs.Init as initSlaveMachine
-use Rattle.slave.specs.Calls.{SlaveLent, sizeOf, sizeRefusal, initShown, rustInit, slaveShown}
+use Rattle.slave.specs.Calls.{sizeOf, sizeRefusal, initShown, rustInit, slaveShown}
 use Rattle.slave.specs.Calls as slaveCalls
 use Rattle.slave.specs.Steps as slaveSteps
 use Rattle.slave.proofs.CallAgrees.{slave-is-ours}
@@ -72,8 +71,8 @@ use Rattle.ch32_i2c.proofs.SlaveEnds.{reply-ends, reply-end, listen-end
 use Rattle.ch32_i2c.proofs.Begins.{transaction-starts, write-read-starts, frame-starts, read-starts, transfer-begins, response-begins, init-begins, init-slave-begins}
 use Rattle.ch32_i2c.proofs.Goes.{Is15, init-goes, master-goes, init-slave-goes, slave-goes}
 use Rattle.ch32_i2c.proofs.RustRefuses.{master-refused, master-unadded, timing-added}
-use Rattle.ch32_i2c.proofs.RunsRecord.{seven-bits, transaction-runs}
-use Rattle.ch32_i2c.proofs.Words.{Obey, struck-keeps, transfer-obeys, init-slave-obeys, init-obeys, obeys-free}
+use Rattle.ch32_i2c.proofs.RunsRecord.{transaction-runs}
+use Rattle.ch32_i2c.proofs.Words.{second-false, address-passed, Obey, struck-keeps, transfer-obeys, init-slave-obeys, init-obeys, obeys-free}
 use Rattle.ch32_i2c.proofs.Stops.{init-stops, master-stops, init-slave-stops, slave-stops}
 
 -- ---- what the machine of a call shows
@@ -334,10 +333,6 @@ goes (respondToRead chip reply) b r t a = slave-goes respondToReadEntry b reply 
 
 -- ---- begin of an accepted call
 
-second-false : (a b : Bool) → a || b ≡ false → b ≡ false
-second-false true b q = absurd (true≢false q)
-second-false false b q = q
-
 begins : (c : Call) (block bytes : List ℕ) → Reads c bytes → Accepted c block bytes → Begins (entryOf c) (takes c) (nothingToDo c) block bytes
 begins (init chip input frequency duty) block bytes e a =
     at-nothing (init chip input frequency duty) (Begun (init chip input frequency duty) block) block bytes e
@@ -474,7 +469,7 @@ unfolding refusal oursWith
 ours-join chip address list written room q turns answers =
     let l = lentWith list written room in
     ap (λ (p : Program). shownOf 0 p answers)
-    (transaction-runs (chipOf chip) (masterOurs.ours (chipOf chip)) address l q (runs-join .ours-passes (chipOf chip) address (seven-bits address l q)) turns (λ f. finish (Failed f)) (λ _. finish done))
+    (transaction-runs (chipOf chip) (masterOurs.ours (chipOf chip)) address l q (runs-join .ours-passes (chipOf chip) address (address-passed address kind.Transaction l q)) turns (λ f. finish (Failed f)) (λ _. finish done))
 
 rust-joins : (chip address : ℕ) (list written : List ℕ) (room : ℕ) → refusal (callOf chip address kind.Transaction) (lentWith list written room) ≡ none → (turns : ℕ) (answers : List ℕ)
     → rust turns (transaction chip address list written) room answers ≡ runsShown (theRust (chipOf chip)) turns chip address (joined (cut (operationsOf list) written)) answers
@@ -482,7 +477,7 @@ unfolding refusal rustWith
 rust-joins chip address list written room q turns answers =
     let l = lentWith list written room in
     ap (λ (p : Program). shownOf 0 p answers)
-    (transaction-runs (chipOf chip) (theRust (chipOf chip)) address l q (runs-join .rust-passes (chipOf chip) address (seven-bits address l q)) turns (λ f. finish (Failed f)) (λ _. finish done))
+    (transaction-runs (chipOf chip) (theRust (chipOf chip)) address l q (runs-join .rust-passes (chipOf chip) address (address-passed address kind.Transaction l q)) turns (λ f. finish (Failed f)) (λ _. finish done))
 
 joins : (chip address : ℕ) (list written block bytes : List ℕ) → Accepted (transaction chip address list written) block bytes → (turns : ℕ) (answers : List ℕ) → length answers < turns
     → Records (transaction chip address list written) block bytes answers (runsShown (masterOurs.ours (chipOf chip)) turns chip address (joined (cut (operationsOf list) written)) answers)

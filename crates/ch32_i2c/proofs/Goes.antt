@@ -1,13 +1,14 @@
 -- A step that is taken does not answer 15.
 -- Assumes nothing.
 use mathlib.Core.Path.{_≡_, refl, ap, sym, _∙_}
-use mathlib.Core.Bool.{Bool, true, false, cond, not, _&&_, true≢false}
+use mathlib.Core.Bool.{Bool, true, false, cond, not, true≢false}
 use mathlib.Core.List.{List, []}
 use mathlib.Core.Option.{Option, none, some}
 use Prim.Native.Nat.{ℕ}
 use native.Mathlib.Omega.{arith}
 use lib.Dec.{leb}
 use lib.ListN.{length}
+use borrow.Author.Tests.{not-true}
 use Rattle.access.specs.declared.ending.Error.{Error}
 use Rattle.access.specs.declared.ending.Error.the-variants.{InvalidState}
 use Rattle.access.specs.declared.ending.Ending.the-variants.{Done, Failed}
@@ -64,10 +65,6 @@ met-other bytes (need.Keep x) p q = let z : _≡_ {A = ℕ} 0 1 = cc in omega ar
 met-other bytes need.Drop p q = let z : _≡_ {A = ℕ} 0 1 = cc in omega arith
 met-other bytes (need.End (Done o)) p q = let z : _≡_ {A = ℕ} 0 1 = cc in omega arith
 met-other bytes (need.End (Failed f)) p q = let z : f .error ≡ InvalidState = cc in true≢false (sym p ∙ ap isMet z)
-
-not-true : (b : Bool) → not b ≡ true → b ≡ false
-not-true true q = sym q
-not-true false q = refl
 
 init-goes-at : (f : InitFound) (b : List ℕ) (a : ℕ) → takesInit f ≡ true → Is15 (init.heldLeft f b a .next) → ⊥
 unfolding initMachine.step

@@ -13,7 +13,6 @@ use Rattle.access.specs.declared.ending.Error.the-variants.{InvalidFrequency, I
 use Rattle.access.proofs.Choice.{both-true}
 use Rattle.timing.specs.declared.settings.Duty.{Duty}
 use Rattle.timing.specs.declared.settings.Timing.{Timing}
-use Rattle.timing.specs.declared.settings.Timed.{Timed}
 use Rattle.timing.specs.declared.settings.Timed.the-variants.{At}
 use Rattle.timing.specs.Rust.{timing}
 use Rattle.timing.specs.Document.{Documented, AsDocumented, settled, firstCause, factor, fast}

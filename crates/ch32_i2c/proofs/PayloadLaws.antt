@@ -7,7 +7,6 @@ use mathlib.Core.Option.{Option, none, some}
 use Prim.Native.Nat.{ℕ}
 use native.Mathlib.Omega.{arith}
 use Rattle.access.specs.declared.next.Next.{Next}
-use Rattle.access.specs.declared.next.Next.the-variants as next
 use Rattle.access.specs.Program.{Access, read, write, send, clock}
 use Rattle.access.specs.Record.{Event, Struck, payloadRead, strike, strikeAt, isData, EqualUnless, DifferInPayload}
 use Rattle.access.specs.Record as layer1

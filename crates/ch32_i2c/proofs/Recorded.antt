@@ -14,7 +14,7 @@ use Rattle.access.specs.declared.next.Next.the-variants as next
 use Rattle.access.specs.Program.{Access, read, write, send, clock}
 use Rattle.access.specs.Record.{Event, Shown, strikeAt, strike}
 use Rattle.access.specs.Machine.{Machine, filled, seenOwed, seenAnswered, shownFrom}
-use Rattle.ch32_i2c.specs.Fed.{Entry, lefts, handedOut, nextOf, nextsOf, inTurn, Makes, Seen, recordOf, endIn, seenOf, recordIn, StruckSeen, strikeAs, struckBy, asSeen, struckIn}
+use Rattle.ch32_i2c.specs.Fed.{Entry, lefts, handedOut, nextsOf, inTurn, Makes, Seen, recordOf, endIn, seenOf, recordIn, StruckSeen, strikeAs, struckBy, asSeen}
 
 -- what is shown after these answers is what the record built from it says
 pub record Recorded (s : Shown) (answers : List ℕ) : Type 0 where

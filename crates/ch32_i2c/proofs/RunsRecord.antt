@@ -1,20 +1,15 @@
 -- An accepted transaction is the program of its runs with joined bytes, however a run is divided.
 -- Assumes nothing.
-use mathlib.Core.Path.{_≡_, sym, ap, _∙_}
-use mathlib.Core.Bool.{false, not}
-use mathlib.Core.List.{List}
+use mathlib.Core.Path.{_≡_, ap, _∙_}
 use mathlib.Core.Option.{Option, none}
 use Prim.Native.Nat.{ℕ}
 use native.Mathlib.Omega.{arith}
-use lib.Dec.{ltb}
 use lib.ListN.{length}
 use Rattle.registers.specs.declared.chip.Chip.{Chip}
 use Rattle.access.specs.declared.ending.Error.{Error}
-use Rattle.access.specs.declared.ending.Error.the-variants.{InvalidArgument, InvalidAddress}
 use Rattle.access.specs.declared.ending.Failure.{Failure}
 use Rattle.access.specs.Program.{Program}
-use Rattle.operations.specs.Operations.{operationsOf, shaped}
-use Rattle.operations.specs.Search.{faultFrom}
+use Rattle.operations.specs.Operations.{operationsOf}
 use Rattle.operations.proofs.SumLaws.{written-runs, read-runs}
 use Rattle.master.specs.declared.call.Kind.the-variants as kind
 use Rattle.master.specs.Rust.{Parts, blocking-transaction, validate-operations, transact}
@@ -22,11 +17,8 @@ use Rattle.master.specs.Joined.{joined, runs-program}
 use Rattle.master.specs.Calls.{Lent, cut, refusalAt, function}
 use Rattle.master.specs.Claims.{Passes}
 use Rattle.master.proofs.LentLaws.{verdict, validate-operations-agrees}
-use Rattle.master.proofs.CallAgrees.{passed-cause, in-form, list-passed}
+use Rattle.master.proofs.CallAgrees.{in-form, list-passed}
 use Rattle.master.proofs.Joining.{runs-join}
-
-pub seven-bits : (address : ℕ) (l : Lent) → refusalAt kind.Transaction address l ≡ none → ltb 127 address ≡ false
-seven-bits address l q = passed-cause (ltb 127 address) InvalidAddress _ (passed-cause (not (shaped (l .list))) InvalidArgument _ q .1) .0
 
 module _ (chip : Chip) (p : Parts) (address : ℕ) (l : Lent) (accepted : refusalAt kind.Transaction address l ≡ none) (passes : Passes p address) (n : ℕ) (h : Failure → Program) (k : Unit {0} → Program) where
   pub transaction-runs : function p chip address kind.Transaction l n h k ≡ runs-program chip p address (joined (cut (operationsOf (l .list)) (l .written))) n h k

@@ -22,7 +22,7 @@ use Rattle.operations.specs.declared.operation.Direction.{Direction}
 use Rattle.operations.specs.declared.operation.Direction.the-variants as direction
 use Rattle.operations.specs.declared.operation.Operation.{Operation}
 use Rattle.operations.specs.Operations.{directionOf, wordOf, isRead, operationOf, emptyRead, operationsOf, shaped}
-use Rattle.operations.specs.Runs.{runsOf, writtenSum, readSum}
+use Rattle.operations.specs.Runs.{writtenSum, readSum}
 use Rattle.operations.specs.Search.{faultFrom}
 use Rattle.operations.proofs.SumLaws.{eachSpan, written-runs, read-runs, both-sums}
 use Rattle.timing.specs.declared.settings.Duty.{Duty}
@@ -34,7 +34,7 @@ use Rattle.master.specs.declared.call.Frame.{Frame}
 use Rattle.master.specs.declared.call.Kind.{Kind}
 use Rattle.master.specs.declared.call.Kind.the-variants as kind
 use Rattle.master.specs.Rust as rust
-use Rattle.master.specs.Calls.{Lent, cut, refuse, orNext, mismatch, refusal, refusalAt, NoAddedCause, InForm, function, rustWith}
+use Rattle.master.specs.Calls.{Lent, cut, refuse, orNext, mismatch, refusal, refusalAt, NoAddedCause, function, rustWith}
 use Rattle.ch32_i2c.specs.Demands.{timedRefusal, theRusts}
 
 -- ---- causes one by one

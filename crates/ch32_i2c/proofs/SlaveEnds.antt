@@ -14,6 +14,7 @@ use Rattle.registers.specs.declared.chip.Chip.{Chip}
 use Rattle.registers.specs.Bits.{ADDMODE, ADD0, ADDR, STOPF, TXE, AF, MSL, BUSY, GENCALL, DUALF}
 use Rattle.registers.specs.Fields.{«ADD7_1», «ADD9_8», ADD2}
 use Rattle.registers.specs.Word.{hasBit, fieldOf}
+use Rattle.registers.proofs.WordLaws.{field-bound}
 use Rattle.registers.specs.Flags.{errorFlags}
 use Rattle.access.specs.declared.ending.Failure.{Failure}
 use Rattle.access.specs.declared.ending.Ending.{Ending}
@@ -96,23 +97,14 @@ replied-with n m (both-done sent) = with-status sent
 -- ---- a listen
 
 seven-bits : (w : ℕ) → fieldOf «ADD7_1» w < 128
-unfolding fieldOf
-seven-bits w = omega arith
-
-second-bits : (w : ℕ) → fieldOf ADD2 w < 128
-unfolding fieldOf
-second-bits w = omega arith
-
-high-bits : (w : ℕ) → fieldOf «ADD9_8» w < 4
-unfolding fieldOf
-high-bits w = omega arith
+seven-bits w = field-bound «ADD7_1» w
 
 ten-bits : (w : ℕ) → rust.ten-bits w < 1024
 ten-bits w = go (hasBit ADD0 w)
   where
     go : (b : Bool) → fieldOf «ADD9_8» w * 256 + fieldOf «ADD7_1» w * 2 + cond b 1 0 < 1024
-    go true = omega (arith, seven-bits w, high-bits w)
-    go false = omega (arith, seven-bits w, high-bits w)
+    go true = let h : fieldOf «ADD9_8» w < 4 = field-bound «ADD9_8» w in omega (arith, seven-bits w)
+    go false = let h : fieldOf «ADD9_8» w < 4 = field-bound «ADD9_8» w in omega (arith, seven-bits w)
 
 module _ (chip : Chip) (turns : ℕ) where
   abbrev Listened : Ending → Ending → Type 0
@@ -134,7 +126,7 @@ module _ (chip : Chip) (turns : ℕ) where
       stale (accesses (λ a. accesses (λ b. accesses (λ c. accesses (λ d. spins Listened _ _
       (λ s f g rest. accesses (λ star1. either Listened (hasBit ADDR star1)
       (accesses (λ star2. either Listened (hasBit GENCALL star2) (finishes (command star2 (SevenBit 0) (omega arith)))
-      (either Listened (hasBit DUALF star2) (accesses (λ oaddr2. finishes (command star2 (SevenBit (fieldOf ADD2 oaddr2)) (second-bits oaddr2))))
+      (either Listened (hasBit DUALF star2) (accesses (λ oaddr2. finishes (command star2 (SevenBit (fieldOf ADD2 oaddr2)) (field-bound ADD2 oaddr2))))
       (accesses (λ oaddr1. either Listened (hasBit ADDMODE oaddr1) (finishes (command star2 (TenBit (rust.ten-bits oaddr1)) (ten-bits oaddr1)))
       (finishes (command star2 (SevenBit (fieldOf «ADD7_1» oaddr1)) (seven-bits oaddr1))))))))
       (checks Listened without-command chip turns star1 (rest tt)))) turns tt)))))

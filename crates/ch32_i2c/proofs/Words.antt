@@ -3,21 +3,18 @@
 use mathlib.Core.Path.{_≡_, refl, ap, sym, subst, _∙_}
 use mathlib.Core.Bool.{Bool, true, false, cond, not, _&&_, _||_, true≢false}
 use mathlib.Core.List.{List, [], _∷_, map}
-use mathlib.Core.Option.{Option, none, some}
+use mathlib.Core.Option.{Option, none}
 use Prim.Native.Nat.{ℕ, _+_, _*_, _%_, _<_, _≤_}
 use native.Mathlib.Omega.{arith}
-use lib.Dec.{eqb, ltb, leb}
-use lib.ListN.{length}
+use lib.Dec.{eqb, ltb}
 use borrow.Author.Tests.{ltb-false}
 use Rattle.registers.specs.declared.chip.Chip.{Chip}
-use Rattle.registers.specs.declared.register.Register.{Register}
 use Rattle.registers.specs.declared.register.Register.the-variants.{Ctlr1, Ctlr2, Oaddr1, Oaddr2, Datar, Star1, Star2, Ckcfgr, Rtr}
-use Rattle.registers.specs.declared.fields.Field.{Field}
 use Rattle.registers.specs.Bits.{DUTY, «F_S»}
 use Rattle.registers.specs.Fields.{FREQ, TRISE, CCR}
-use Rattle.registers.specs.Word.{hasBit, putBit, bitField, fieldOf, putField}
-use Rattle.registers.specs.Addresses.{addressWord, ownSeven, ownTen, secondAddress}
-use Rattle.registers.proofs.WordLaws.{field-back, field-above, bit-back, bit-other}
+use Rattle.registers.specs.Word.{putBit, fieldOf, putField}
+use Rattle.registers.specs.Addresses.{addressWord}
+use Rattle.registers.proofs.WordLaws.{field-back, bit-above, bit-back, bit-other}
 use Rattle.registers.proofs.AddressLaws as addresses
 use Rattle.access.specs.declared.ending.Error.the-variants.{InvalidArgument, InvalidAddress, Overrun}
 use Rattle.access.specs.declared.need.Need.{Need}
@@ -41,7 +38,6 @@ use Rattle.timing.proofs.Documented.{documented}
 use Rattle.master.specs.declared.call.Call.{Call}
 use Rattle.master.specs.declared.call.Kind.{Kind}
 use Rattle.master.specs.declared.call.Kind.the-variants as kind
-use Rattle.master.specs.declared.call.Setting.{Setting}
 use Rattle.master.specs.declared.state.Move.{Move}
 use Rattle.master.specs.Machine.{master, start, owed}
 use Rattle.master.specs.Calls.{Lent, refusal, refusalAt, callShown, shapeOf}
@@ -147,7 +143,7 @@ plain-obeys a (need.Keep p) q = tt
 plain-obeys a need.Drop q = tt
 plain-obeys a (need.End e) q = tt
 
-address-passed : (address : ℕ) (x : Kind) (l : Lent) → refusalAt x address l ≡ none → ltb 127 address ≡ false
+pub address-passed : (address : ℕ) (x : Kind) (l : Lent) → refusalAt x address l ≡ none → ltb 127 address ≡ false
 address-passed address kind.Transaction l q = passed-cause (ltb 127 address) InvalidAddress _ (passed-cause (not (shaped (l .list))) InvalidArgument _ q .1) .0
 address-passed address kind.WriteRead l q = passed-cause (ltb 127 address) InvalidAddress _ (passed-cause (eqb (l .room) 0) Overrun _ q .1) .0
 address-passed address (kind.Write f) l q = passed-cause (ltb 127 address) InvalidAddress _ q .0
@@ -174,7 +170,7 @@ first-false : (a b : Bool) → a || b ≡ false → a ≡ false
 first-false true b q = absurd (true≢false q)
 first-false false b q = refl
 
-second-false : (a b : Bool) → a || b ≡ false → b ≡ false
+pub second-false : (a b : Bool) → a || b ≡ false → b ≡ false
 second-false true b q = absurd (true≢false q)
 second-false false b q = q
 
@@ -230,11 +226,6 @@ module _ (ten a has second general stretching : ℕ) where
         (shown-obeys (owning ten a has second) initSlaveMachine.initMachine [] (λ s. s .config ≡ config) (λ s x e. config-stays s x ∙ e) owed-config (initSlaveMachine.started config) refl answers)
 
 -- ---- init
-
--- a bit above a field that is written stays
-bit-above : (f : Field) (n v w : ℕ) → f .at + f .size ≤ n → hasBit n (putField f v w) ≡ hasBit n w
-unfolding hasBit fieldOf
-bit-above f n v w h = ap (λ (x : ℕ). eqb x 1) (field-above f (bitField n) v w h)
 
 module _ (chip : Chip) (input frequency : ℕ) (duty : Duty) (t : Timing) (none-holds : firstCause chip input frequency duty ≡ none) (d : Documented chip input frequency duty t) where
   clock-told : ClockWord chip input frequency duty (initMachine.clockWord t)
