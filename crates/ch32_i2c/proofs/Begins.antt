@@ -20,7 +20,6 @@ use Rattle.block.specs.Bytes32.{blockSize}
 use Rattle.timing.specs.declared.settings.Timing.{Timing}
 use Rattle.timing.specs.declared.settings.Timed.{Timed}
 use Rattle.timing.specs.declared.settings.Timed.the-variants as timed
-use Rattle.timing.specs.declared.init.State as timingState
 use Rattle.timing.specs.Rust.{timing}
 use Rattle.timing.specs.Machine as initMachine
 use Rattle.master.specs.declared.call.Call.{Call}
@@ -30,9 +29,7 @@ use Rattle.master.specs.declared.state.Move.{Move}
 use Rattle.master.specs.declared.stage.Stage.the-variants.{Begin}
 use Rattle.master.specs.Machine.{to, fresh, begun, writeBytes, owed, owedAt, startWith, start}
 use Rattle.master.specs.Calls.{Lent, lentWith, refusal, settingOf, shapeOf}
-use Rattle.master.specs.Steps.{stateAt}
 use Rattle.master.proofs.AcceptedFits.{states-fit}
-use Rattle.slave.specs.declared.init.InitState.{InitState}
 use Rattle.slave.specs.declared.config.SlaveConfig.{SlaveConfig}
 use Rattle.slave.specs.declared.state.Kind as slave
 use Rattle.slave.specs.declared.state.Kind.the-variants.{Listen, RespondToWrite, RespondToRead}
@@ -40,25 +37,20 @@ use Rattle.slave.specs.Init as initSlaveMachine
 use Rattle.slave.specs.Machine as slaveMachine
 use Rattle.slave.specs.Calls.{SlaveLent}
 use Rattle.slave.specs.Calls as slaveCalls
-use Rattle.slave.specs.Steps as slaveSteps
 use Rattle.slave.proofs.FitsKept as slaveFits
-use Rattle.images.specs.declared.master_image.MasterFound.{MasterFound}
-use Rattle.images.specs.declared.slave_image.SlaveFound.{SlaveFound}
 use Rattle.images.specs.Numbers.{chipOf}
-use Rattle.images.specs.MasterImage.{kindEntry, frameOptionsOf}
-use Rattle.images.specs.SlaveImage as slaveImage
+use Rattle.images.specs.MasterImage.{frameOptionsOf}
 use Rattle.registers.specs.declared.chip.Chip.{Chip}
 use Rattle.ch32_i2c.specs.Left.{Left, left}
 use Rattle.ch32_i2c.specs.Fed.{Entry, Begins}
 use Rattle.ch32_i2c.specs.Fed as fed
 use Rattle.ch32_i2c.specs.Init as cInit
-use Rattle.ch32_i2c.specs.Transfer.{callOf, masterHeld}
+use Rattle.ch32_i2c.specs.Transfer.{callOf}
 use Rattle.ch32_i2c.specs.InitSlave as cInitSlave
-use Rattle.ch32_i2c.specs.Response.{slaveHeld}
-use Rattle.ch32_i2c.specs.Demands.{init, initSlave, entryOf, takes, timedRefusal, takesInit, takesTransfer, takesInitSlave, takesResponse}
+use Rattle.ch32_i2c.specs.Demands.{init, initSlave, entryOf, takes, timedRefusal}
 use Rattle.ch32_i2c.proofs.Carried.{filled-end}
-use Rattle.ch32_i2c.proofs.HeldLaws.{init-held, master-held, init-slave-held, slave-held}
-use Rattle.ch32_i2c.proofs.InitCarried.{InitFit, initImage, InitSlaveFit, initSlaveImage}
+use Rattle.ch32_i2c.proofs.Takes.{transferTakes, responseTakes, transfer-takes, response-takes, init-takes, init-slave-takes}
+use Rattle.ch32_i2c.proofs.InitCarried.{initImage, initSlaveImage}
 use Rattle.ch32_i2c.proofs.InitRange.{settled-range}
 use Rattle.ch32_i2c.proofs.TransferCarried as transfer
 use Rattle.ch32_i2c.proofs.ResponseCarried as response
@@ -83,22 +75,6 @@ module _ (e : Entry) (takes : List ℕ → List ℕ → Bool) (block bytes writt
         taken = ap (λ (h : Left). takes (h .block) (h .read)) b ∙ t ∙ ap not (starts-end nothing n s);
         read = ap (λ (h : Left). h .read) b;
       }
-
--- ---- the image of a state is taken unless it has ended
-
-pub transfer-takes : (c : Call) (l : Lent) → refusal c l ≡ none → (m : Move) → transfer.Fit c l m → takesTransfer (masterHeld (kindEntry (c .kind)) (transfer.imageOf c l m)) l ≡ not (isEnd (owed (shapeOf c l) m))
-transfer-takes c l accepted m g = ap (λ (f : MasterFound). takesTransfer f l) (master-held (stateAt c m)) ∙ transfer.open-at c l accepted m g (isEnd (owed (shapeOf c l) m)) refl
-
-pub response-takes : (chip : Chip) (x : slave.Kind) (l : SlaveLent) → slaveCalls.Accepted x l → (m : slaveMachine.slave (slaveCalls.settingOf chip x l) .State) → response.Fit chip x l m
-    → takesResponse (slaveHeld (slaveImage.kindEntry x) (response.imageOf chip x l m)) l ≡ not (isEnd (slaveMachine.owed (slaveCalls.settingOf chip x l) m))
-response-takes chip x l accepted m g =
-    ap (λ (f : SlaveFound). takesResponse f l) (slave-held (slaveSteps.stateAt (slaveCalls.settingOf chip x l) m)) ∙ response.open-at chip x l accepted m g (isEnd (slaveMachine.owed (slaveCalls.settingOf chip x l) m)) refl
-
-pub init-takes : (s : timingState.State) → InitFit s → takesInit (cInit.initHeld (initImage s)) ≡ not (isEnd (initMachine.owed s))
-init-takes s g = ap takesInit (init-held s g)
-
-pub init-slave-takes : (s : InitState) → InitSlaveFit s → takesInitSlave (cInitSlave.initSlaveHeld (initSlaveImage s)) ≡ not (isEnd (initSlaveMachine.owed s))
-init-slave-takes s g = ap takesInitSlave (init-slave-held s g)
 
 -- ---- what an accepted transfer owes first
 
@@ -158,15 +134,15 @@ read-starts chip address option room = refl
 
 -- ---- begin of each kind
 
-module _ (c : Call) (l : Lent) (accepted : refusal c l ≡ none) (block bytes : List ℕ) (e : Entry) (takes : List ℕ → List ℕ → Bool) (nothing : Bool) where
+module _ (c : Call) (l : Lent) (accepted : refusal c l ≡ none) (block bytes : List ℕ) (room : length bytes ≡ l .room) (e : Entry) (takes : List ℕ → List ℕ → Bool) (nothing : Bool) where
   abbrev first : Move
   first = start (shapeOf c l)
 
   pub transfer-begins : e .begin block bytes ≡ left (filled (l .written) (owed (shapeOf c l) first)) (transfer.imageOf c l first) bytes
-      → takes (transfer.imageOf c l first) bytes ≡ takesTransfer (masterHeld (kindEntry (c .kind)) (transfer.imageOf c l first)) l
+      → takes (transfer.imageOf c l first) bytes ≡ transferTakes c l (transfer.imageOf c l first) bytes
       → Starts nothing (owed (shapeOf c l) first) → Begins e takes nothing block bytes
   transfer-begins b t s =
-      begins-with e takes block bytes (l .written) (transfer.imageOf c l first) (owed (shapeOf c l) first) b (t ∙ transfer-takes c l accepted first (states-fit .begins c l accepted)) nothing s
+      begins-with e takes block bytes (l .written) (transfer.imageOf c l first) (owed (shapeOf c l) first) b (t ∙ transfer-takes c l accepted first bytes (states-fit .begins c l accepted) room) nothing s
 
 response-starts : (chip : Chip) (x : slave.Kind) (l : SlaveLent) → isEnd (slaveMachine.owed (slaveCalls.settingOf chip x l) (slaveMachine.start x)) ≡ false
 unfolding slaveMachine.owed
@@ -174,13 +150,13 @@ response-starts chip Listen l = refl
 response-starts chip RespondToWrite l = refl
 response-starts chip RespondToRead l = refl
 
-module _ (chip : Chip) (x : slave.Kind) (l : SlaveLent) (accepted : slaveCalls.Accepted x l) (block bytes : List ℕ) (e : Entry) (takes : List ℕ → List ℕ → Bool) where
+module _ (chip : Chip) (x : slave.Kind) (l : SlaveLent) (accepted : slaveCalls.Accepted x l) (block bytes : List ℕ) (room : length bytes ≡ l .room) (e : Entry) (takes : List ℕ → List ℕ → Bool) where
   pub response-begins : e .begin block bytes ≡ left (filled (slaveCalls.bytesOf x l) (slaveMachine.owed (slaveCalls.settingOf chip x l) (slaveMachine.start x))) (response.imageOf chip x l (slaveMachine.start x)) bytes
-      → takes (response.imageOf chip x l (slaveMachine.start x)) bytes ≡ takesResponse (slaveHeld (slaveImage.kindEntry x) (response.imageOf chip x l (slaveMachine.start x))) l
+      → takes (response.imageOf chip x l (slaveMachine.start x)) bytes ≡ responseTakes x l (response.imageOf chip x l (slaveMachine.start x)) bytes
       → Begins e takes false block bytes
   response-begins b t =
       begins-with e takes block bytes (slaveCalls.bytesOf x l) (response.imageOf chip x l (slaveMachine.start x)) (slaveMachine.owed (slaveCalls.settingOf chip x l) (slaveMachine.start x)) b
-      (t ∙ response-takes chip x l accepted (slaveMachine.start x) (slaveFits.states-fit .begins (slaveCalls.settingOf chip x l))) false (response-starts chip x l)
+      (t ∙ response-takes chip x l accepted (slaveMachine.start x) bytes (slaveFits.states-fit .begins (slaveCalls.settingOf chip x l)) room) false (response-starts chip x l)
 
 init-starts : (chip : Chip) (t : Timing) → isEnd (initMachine.owed (initMachine.started chip t)) ≡ false
 unfolding initMachine.owed
@@ -195,7 +171,7 @@ module _ (chip input frequency duty : ℕ) (block : List ℕ) (size : length blo
   init-begins-at (timed.Refused e) q r = let z : _≡_ {A = ℕ} 0 1 = cc in absurd (omega arith)
   init-begins-at (timed.At t) q r =
       begins-with (entryOf (init chip input frequency duty)) (takes (init chip input frequency duty)) block [] [] (initImage (initMachine.started (chipOf chip) t)) (initMachine.owed (initMachine.started (chipOf chip) t))
-      (init-begun chip input frequency duty block size known t q) (init-takes (initMachine.started (chipOf chip) t) (settled-range (chipOf chip) input frequency (cInit.dutyOf duty) t q)) false (init-starts (chipOf chip) t)
+      (init-begun chip input frequency duty block size known t q) (init-takes (initMachine.started (chipOf chip) t) [] (settled-range (chipOf chip) input frequency (cInit.dutyOf duty) t q)) false (init-starts (chipOf chip) t)
 
   pub init-begins : timedRefusal (timing (chipOf chip) input frequency (cInit.dutyOf duty)) ≡ none → Begins (entryOf (init chip input frequency duty)) (takes (init chip input frequency duty)) false block []
   init-begins r = init-begins-at (timing (chipOf chip) input frequency (cInit.dutyOf duty)) refl r
@@ -206,4 +182,4 @@ module _ (ten address has second general stretching : ℕ) (block : List ℕ) (s
   init-slave-begins r =
       let s = initSlaveMachine.started (cInitSlave.configOf ten address has second general stretching) in
       begins-with (entryOf (initSlave ten address has second general stretching)) (takes (initSlave ten address has second general stretching)) block [] [] (initSlaveImage s) (initSlaveMachine.owed s)
-      (slave-begun ten address has second general stretching block size known r) (init-slave-takes s (config-passed (cInitSlave.configOf ten address has second general stretching) r)) false (init-slave-starts (cInitSlave.configOf ten address has second general stretching))
+      (slave-begun ten address has second general stretching block size known r) (init-slave-takes s [] (config-passed (cInitSlave.configOf ten address has second general stretching) r)) false (init-slave-starts (cInitSlave.configOf ten address has second general stretching))

@@ -1,9 +1,9 @@
 -- A machine whose states stand in blocks is seen through begin and step as it is.
 -- Assumes nothing.
 use mathlib.Core.Path.{_≡_, refl, ap, sym, subst, _∙_}
-use mathlib.Core.Bool.{Bool, true, false, true≢false}
+use mathlib.Core.Bool.{Bool, true, false, not, true≢false}
 use mathlib.Core.List.{List, [], _∷_, _++_}
-use mathlib.Core.Option.{some}
+use mathlib.Core.Option.{none, some}
 use Prim.Native.Nat.{ℕ, suc}
 use native.Mathlib.Omega.{arith}
 use lib.ListN.{length, length-set}
@@ -104,6 +104,24 @@ owed-end bytes (need.Send p) x q = let z : _≡_ {A = ℕ} 0 1 = cc in absurd (o
 owed-end bytes (need.Keep p) x q = let z : _≡_ {A = ℕ} 0 1 = cc in absurd (omega arith)
 owed-end bytes need.Drop x q = let z : _≡_ {A = ℕ} 0 1 = cc in absurd (omega arith)
 owed-end bytes (need.End e) x q = refl
+
+owed-open : (bytes : List ℕ) (n : Need) → seenOwed bytes n .end ≡ none → isEnd n ≡ false
+owed-open bytes (need.Read y) q = refl
+owed-open bytes (need.Write y v) q = refl
+owed-open bytes need.Clock q = refl
+owed-open bytes (need.Send p) q = refl
+owed-open bytes (need.Keep p) q = refl
+owed-open bytes need.Drop q = refl
+owed-open bytes (need.End e) q = let z : _≡_ {A = ℕ} 0 1 = cc in absurd (omega arith)
+
+ended-closed : (bytes : List ℕ) (n : Need) (a : ℕ) (rest : Shown) → isEnd n ≡ true → seenAnswered bytes n a rest .end ≡ none → ⊥
+ended-closed bytes (need.Read x) a rest e q = true≢false (sym e)
+ended-closed bytes (need.Write x v) a rest e q = true≢false (sym e)
+ended-closed bytes need.Clock a rest e q = true≢false (sym e)
+ended-closed bytes (need.Send p) a rest e q = true≢false (sym e)
+ended-closed bytes (need.Keep p) a rest e q = true≢false (sym e)
+ended-closed bytes need.Drop a rest e q = true≢false (sym e)
+ended-closed bytes (need.End x) a rest e q = let z : _≡_ {A = ℕ} 0 1 = cc in omega arith
 
 answered-end : (bytes : List ℕ) (n : Need) (a : ℕ) (rest : Shown) → isEnd n ≡ false → seenAnswered bytes n a rest .end ≡ rest .end
 answered-end bytes (need.Read x) a rest e = refl
@@ -214,6 +232,26 @@ module _ {m : Machine} {bytes : List ℕ} {room : ℕ} {c : Entry} {image : m .S
       go true e h =
           subst (λ (y : Left). lastFrom c y (answers ++ (a ∷ [])) ≡ refusedWith InvalidState (lastFrom c y answers .block) (lastFrom c y answers .read)) (sym (k .ended s r b g l e))
           (ended-left s r g l e (answers ++ (a ∷ [])) ∙ ap (λ (y : Left). refusedWith InvalidState (y .block) (y .read)) (sym (ended-left s r g l e answers)))
+
+  -- while there is no end a step takes the block that is left
+  module _ (takes : List ℕ → List ℕ → Bool) (law : (s : m .State) (r : List ℕ) → Good s → length r ≡ room → takes (image s) r ≡ not (isEnd (m .need s))) where
+    carried-open : (s : m .State) (r : List ℕ) → Good s → length r ≡ room → (answers : List ℕ) → shownFrom m bytes s answers .end ≡ none
+        → takes (lastFrom c (leftAt s r) answers .block) (lastFrom c (leftAt s r) answers .read) ≡ true
+    carried-open s r g l [] q = law s r g l ∙ ap not (owed-open bytes (m .need s) q)
+    carried-open s r g l (a ∷ answers) q = go (isEnd (m .need s)) refl (carried-open (m .move s a) (kept (m .need s) a r) (k .stays s a g) (kept-length (m .need s) a r ∙ l) answers)
+      where
+        go : (t : Bool) → isEnd (m .need s) ≡ t
+            → (shownFrom m bytes (m .move s a) answers .end ≡ none
+            → takes (lastFrom c (leftAt (m .move s a) (kept (m .need s) a r)) answers .block) (lastFrom c (leftAt (m .move s a) (kept (m .need s) a r)) answers .read) ≡ true)
+            → takes (lastFrom c (c .step (image s) r a) answers .block) (lastFrom c (c .step (image s) r a) answers .read) ≡ true
+        go false e h =
+            subst (λ (x : Left). takes (lastFrom c x answers .block) (lastFrom c x answers .read) ≡ true) (sym (k .taken s r a g l e))
+            (h (sym (answered-end bytes (m .need s) a (shownFrom m bytes (m .move s a) answers) e) ∙ q))
+        go true e h = absurd (ended-closed bytes (m .need s) a (shownFrom m bytes (m .move s a) answers) e q)
+
+    pub still-open : (s : m .State) (b r : List ℕ) → Good s → length r ≡ room → c .begin b r ≡ leftAt s r → (answers : List ℕ) → shownFrom m bytes s answers .end ≡ none
+        → takes (lastFrom c (c .begin b r) answers .block) (lastFrom c (c .begin b r) answers .read) ≡ true
+    still-open s b r g l e answers q = subst (λ (x : Left). takes (lastFrom c x answers .block) (lastFrom c x answers .read) ≡ true) (sym e) (carried-open s r g l answers q)
 
   -- begin leaves a state's image: then the call makes what the machine shows
   pub carried : (s : m .State) (b r : List ℕ) → Good s → length r ≡ room → c .begin b r ≡ leftAt s r → (answers : List ℕ) → Makes c b r answers (shownFrom m bytes s answers)

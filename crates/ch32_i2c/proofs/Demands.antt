@@ -93,12 +93,12 @@ at-nothing : (c : Call) (P : List ℕ → Type 0) (block bytes : List ℕ) → b
 at-nothing c P block bytes e f a = subst (λ (r : List ℕ). Accepted c block r → P r) (sym e) f a
 
 abbrev Run : Call → List ℕ → List ℕ → Type 0
-Run c block bytes = Runs (entryOf c) block bytes (shownBy c (length bytes))
+Run c block bytes = Runs (entryOf c) (takes c) block bytes (shownBy c (length bytes))
 
 abbrev Begun : Call → List ℕ → List ℕ → Type 0
 Begun c block bytes = Begins (entryOf c) (takes c) (nothingToDo c) block bytes
 
-runs : (c : Call) (block bytes : List ℕ) → Reads c bytes → Accepted c block bytes → Runs (entryOf c) block bytes (shownBy c (length bytes))
+runs : (c : Call) (block bytes : List ℕ) → Reads c bytes → Accepted c block bytes → Run c block bytes
 runs (init chip input frequency duty) block bytes e a =
     at-nothing (init chip input frequency duty) (Run (init chip input frequency duty) block) block bytes e
     (λ a. let p = parts (init chip input frequency duty) block [] a in init-runs chip input frequency duty block (p .size) (p .known) (p .own)) a
@@ -341,13 +341,13 @@ begins (transaction chip address list written) block bytes e a =
     let p = parts (transaction chip address list written) block bytes a in
     let c = callOf chip address kind.Transaction in
     let l = lentWith list written (length bytes) in
-    transfer-begins c l (p .own) block bytes (entryOf (transaction chip address list written)) (takes (transaction chip address list written)) (nothingToDo (transaction chip address list written))
+    transfer-begins c l (p .own) block bytes refl (entryOf (transaction chip address list written)) (takes (transaction chip address list written)) (nothingToDo (transaction chip address list written))
     (begin-left c l (p .own) (ltb 3 chip) block bytes (p .size) (p .known) refl) refl (transaction-starts chip address list written (length bytes) (p .own))
 begins (writeRead chip address written) block bytes e a =
     let p = parts (writeRead chip address written) block bytes a in
     let c = callOf chip address kind.WriteRead in
     let l = lentWith [] written (length bytes) in
-    transfer-begins c l (p .own) block bytes (entryOf (writeRead chip address written)) (takes (writeRead chip address written)) false
+    transfer-begins c l (p .own) block bytes refl (entryOf (writeRead chip address written)) (takes (writeRead chip address written)) false
     (begin-left c l (p .own) (ltb 3 chip) block bytes (p .size) (p .known) refl) refl (write-read-starts chip address written (length bytes))
 begins (write chip address option written) block bytes e a =
     at-nothing (write chip address option written) (Begun (write chip address option written) block) block bytes e
@@ -355,14 +355,14 @@ begins (write chip address option written) block bytes e a =
     let p = parts (write chip address option written) block [] a in
     let c = callOf chip address (kind.Write (frameOptionsOf option)) in
     let l = lentWith [] written 0 in
-    transfer-begins c l (p .own) block [] (entryOf (write chip address option written)) (takes (write chip address option written)) (nothingToDo (write chip address option written))
+    transfer-begins c l (p .own) block [] refl (entryOf (write chip address option written)) (takes (write chip address option written)) (nothingToDo (write chip address option written))
     (begin-left c l (p .own) (ltb 3 chip || ltb 5 option) block [] (p .size) (p .known) refl) refl
     (frame-starts chip address written option (ltb-false 5 option (second-false (ltb 3 chip) (ltb 5 option) (p .known))))) a
 begins (read chip address option) block bytes e a =
     let p = parts (read chip address option) block bytes a in
     let c = callOf chip address (kind.Read (frameOptionsOf option)) in
     let l = lentWith [] [] (length bytes) in
-    transfer-begins c l (p .own) block bytes (entryOf (read chip address option)) (takes (read chip address option)) false
+    transfer-begins c l (p .own) block bytes refl (entryOf (read chip address option)) (takes (read chip address option)) false
     (begin-left c l (p .own) (ltb 3 chip || ltb 5 option) block bytes (p .size) (p .known) refl) refl (read-starts chip address option (length bytes))
 begins (initSlave ten address has second general stretching) block bytes e a =
     at-nothing (initSlave ten address has second general stretching) (Begun (initSlave ten address has second general stretching) block) block bytes e
@@ -371,19 +371,19 @@ begins (listen chip) block bytes e a =
     at-nothing (listen chip) (Begun (listen chip) block) block bytes e
     (λ a.
     let p = parts (listen chip) block [] a in
-    response-begins (chipOf chip) Listen (slaveLent.lentWith [] 0) (omega arith) block [] (entryOf (listen chip)) (takes (listen chip))
+    response-begins (chipOf chip) Listen (slaveLent.lentWith [] 0) (omega arith) block [] refl (entryOf (listen chip)) (takes (listen chip))
     (response-left chip Listen (slaveLent.lentWith [] 0) (omega arith) block [] (p .size) (p .known) refl) refl) a
 begins (respondToWrite chip) block bytes e a =
     let p = parts (respondToWrite chip) block bytes a in
     let l = slaveLent.lentWith [] (length bytes) in
-    response-begins (chipOf chip) RespondToWrite l (small (length bytes) (p .own)) block bytes (entryOf (respondToWrite chip)) (takes (respondToWrite chip))
+    response-begins (chipOf chip) RespondToWrite l (small (length bytes) (p .own)) block bytes refl (entryOf (respondToWrite chip)) (takes (respondToWrite chip))
     (response-left chip RespondToWrite l (small (length bytes) (p .own)) block bytes (p .size) (p .known) refl) refl
 begins (respondToRead chip reply) block bytes e a =
     at-nothing (respondToRead chip reply) (Begun (respondToRead chip reply) block) block bytes e
     (λ a.
     let p = parts (respondToRead chip reply) block [] a in
     let l = slaveLent.lentWith reply 0 in
-    response-begins (chipOf chip) RespondToRead l (small (length reply) (p .own)) block [] (entryOf (respondToRead chip reply)) (takes (respondToRead chip reply))
+    response-begins (chipOf chip) RespondToRead l (small (length reply) (p .own)) block [] refl (entryOf (respondToRead chip reply)) (takes (respondToRead chip reply))
     (response-left chip RespondToRead l (small (length reply) (p .own)) block [] (p .size) (p .known) refl) refl) a
 
 -- ---- what is seen of an accepted call
@@ -445,6 +445,7 @@ demand-1 =
       goes = goes;
       stops = stops;
       ends = λ c block bytes k a answers. subst IsMet (sym (seen-shown c block bytes k a answers .end-is)) (runs c block bytes k a .met answers);
+      still-open = λ c block bytes k a answers q. runs c block bytes k a .still-open answers (sym (seen-shown c block bytes k a answers .end-is) ∙ q);
       over = over;
     }
 

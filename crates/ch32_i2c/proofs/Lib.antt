@@ -17,6 +17,7 @@ pub mod TransferStages
 pub mod TransferMet
 pub mod ResponseCarried
 pub mod ResponseMet
+pub mod Takes
 pub mod CallsRun
 pub mod Begins
 pub mod Goes

@@ -326,6 +326,9 @@ pub record Demand1 : Type 0 where
   pub accepts : (c : Call) (block bytes : List ℕ) → Reads c bytes → Accepted c block bytes → Begins (entryOf c) (takes c) (nothingToDo c) block bytes
   -- after each answer there is an access, or the end with 0 or 1 to 6: a call that was accepted is refused at no step before its end
   pub ends : (c : Call) (block bytes : List ℕ) → Reads c bytes → Accepted c block bytes → (answers : List ℕ) → IsMet (endAfter c block bytes answers)
+  -- while there is no end, a step takes the block and the bytes that were left
+  pub still-open : (c : Call) (block bytes : List ℕ) → Reads c bytes → Accepted c block bytes → (answers : List ℕ) → endAfter c block bytes answers ≡ none
+      → takes c (leftAfter c block bytes answers .block) (leftAfter c block bytes answers .read) ≡ true
   -- one end: a step after it answers 15; record and end stay, and so does every lent byte
   pub over : (c : Call) (block bytes : List ℕ) → Reads c bytes → Accepted c block bytes → (answers more : List ℕ) (e : Ending) → endAfter c block bytes answers ≡ some e → Over c block bytes answers more
   -- a returned number is that of exactly one access or end (every exported contract says that what is handed out holds 16-bit words)
