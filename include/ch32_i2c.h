@@ -174,7 +174,9 @@ static inline size_t ch32_i2c_put_operation(uint8_t *list, size_t used, unsigned
  * Each begin names its refusals in the order in which they are tried. Before them all, 15 if the block is not 32 bytes long. */
 
 /* Resets the peripheral and sets its clock: `input` is the peripheral's clock, `frequency` the bus's, both in hertz. Never ends with an
- * error once begun. Refusals: 16 (chip, duty), 10, 12, 11. */
+ * error once begun. Refusals: 16 (chip, duty), 10, 12, 11.
+ * As in ch32-hal, without ch32v4: FREQ has six bits, so that of 144 MHz 16 are written; and an input clock given in MHz by mistake, 36 for
+ * 36,000,000, is not refused (FREQ 0, divider 4, or 1 where it is fast). */
 uint64_t ch32_i2c_init_begin(uint8_t *block, size_t block_length, uint8_t chip, uint32_t input, uint32_t frequency, uint8_t duty);
 uint64_t ch32_i2c_init_step(uint8_t *block, size_t block_length, uint16_t answer);
 
@@ -199,7 +201,8 @@ uint64_t ch32_i2c_write_begin(uint8_t *block, size_t block_length, uint8_t chip,
                               const uint8_t *written, size_t written_length);
 uint64_t ch32_i2c_write_step(uint8_t *block, size_t block_length, const uint8_t *written, size_t written_length, uint16_t answer);
 
-/* A read frame. Refusals: 16 (chip, option), 9, 6 (empty read), 8. */
+/* A read frame. Refusals: 16 (chip, option), 9, 6 (empty read), 8.
+ * As in ch32-hal, a read of one byte with option 4 asks for no STOP, and then waits until none is asked. */
 uint64_t ch32_i2c_read_begin(uint8_t *block, size_t block_length, uint8_t chip, uint8_t address, uint8_t option,
                              uint8_t *read, size_t read_length);
 uint64_t ch32_i2c_read_step(uint8_t *block, size_t block_length, uint8_t *read, size_t read_length, uint16_t answer);

@@ -1,6 +1,6 @@
 //! THE ADDED CAUSES. The port refuses some calls at which the Rust panics or has no refusal: 8 at the port's size
-//! and 10 to 16. They are document 01's, in its order, and nothing here comes from the Rust. A call with one of
-//! them is never given to the Rust. Every other refusal (6 and 9, and which of them comes first) is the Rust's.
+//! and 10 to 16. They are document 01's, in its order, and nothing here comes from the Rust. A call whose first cause
+//! is one of them is never given to the Rust. Where 6 or 9 comes first it is, whatever holds behind.
 
 use record::{Call, Entry};
 

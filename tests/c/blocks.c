@@ -293,7 +293,7 @@ void test_mutated_blocks(void) { at_every_state(visit_mutations); }
 
 static void visit_layout(void)
 {
-    unsigned byte, value;
+    unsigned byte, value, i;
     for (byte = 1; byte < CH32_I2C_BLOCK_SIZE; byte++) {
         if (!(layout[c.entry].unused_bytes >> byte & 1))
             continue;
@@ -304,6 +304,13 @@ static void visit_layout(void)
             refused_step("unused byte", byte);
         }
     }
+    for (i = 0; i < sizeof no_settings / sizeof no_settings[0]; i++)
+        if (no_settings[i].entry == (int)c.entry) {
+            keep(&tried, &c);
+            tried.block[no_settings[i].byte] = (uint8_t)(no_settings[i].value & 0xff);
+            tried.block[no_settings[i].byte + 1] = (uint8_t)(no_settings[i].value >> 8);
+            refused_step("settings that no begin leaves", no_settings[i].value);
+        }
     if (layout[c.entry].first_unknown_stage == 0)
         return;
     byte = layout[c.entry].stage_byte;

@@ -1,6 +1,6 @@
 -- Which states the blocks of `init` and `init_slave` hold, by their length.
 -- Assumes nothing.
-use mathlib.Core.Path.{_≡_, refl, sym, subst, _∙_}
+use mathlib.Core.Path.{_≡_, refl, ap, sym, subst, _∙_}
 use mathlib.Core.Bool.{Bool, true, false, cond}
 use mathlib.Core.List.{List}
 use mathlib.Core.Option.{none, some}
@@ -38,6 +38,8 @@ use Rattle.timing.specs.Rust.{timing}
 use Rattle.timing.specs.Machine.{started}
 use Rattle.calls.specs.OnBlock.{Does, standing}
 use Rattle.calls.specs.Init.{initHeld, initOn, firstWith}
+use Rattle.calls.specs.Init as initCall
+use Rattle.calls.specs.InitSlave as initSlaveCall
 use Rattle.calls.specs.InitSlave.{initSlaveHeld}
 
 found-whole : {A : Type 0} (b : List ℕ) (x nothing found : A) → (nothing ≡ found → ⊥) → cond (eqb (length b) blockSize) x nothing ≡ found → length b ≡ blockSize
@@ -51,26 +53,26 @@ pub init-short : (b : List ℕ) → (length b ≡ blockSize → ⊥) → init.No
 unfolding initHeld
 init-short b e = rw (ne-eqb (length b) blockSize e)
 
-pub init-whole : (b : List ℕ) (f : Fields) (x : InitFound) → length b ≡ blockSize → f ≡ fieldsOf b → x ≡ initIn f → x ≡ initHeld b
+pub init-whole : (b : List ℕ) (f : Fields) (x y : InitFound) → length b ≡ blockSize → f ≡ fieldsOf b → x ≡ initIn f → y ≡ initCall.fitting x → y ≡ initHeld b
 unfolding initHeld
-init-whole b f x size e k = k ∙ rw (eq-eqb (length b) blockSize size, e)
+init-whole b f x y size e k q = q ∙ rw (k, eq-eqb (length b) blockSize size, e)
 
 pub init-slave-short : (b : List ℕ) → (length b ≡ blockSize → ⊥) → initSlave.Nothing ≡ initSlaveHeld b
 unfolding initSlaveHeld
 init-slave-short b e = rw (ne-eqb (length b) blockSize e)
 
-pub init-slave-whole : (b : List ℕ) (f : Fields) (x : InitSlaveFound) → length b ≡ blockSize → f ≡ fieldsOf b → x ≡ initSlaveIn f → x ≡ initSlaveHeld b
+pub init-slave-whole : (b : List ℕ) (f : Fields) (x y : InitSlaveFound) → length b ≡ blockSize → f ≡ fieldsOf b → x ≡ initSlaveIn f → y ≡ initSlaveCall.fitting x → y ≡ initSlaveHeld b
 unfolding initSlaveHeld
-init-slave-whole b f x size e k = k ∙ rw (eq-eqb (length b) blockSize size, e)
+init-slave-whole b f x y size e k q = q ∙ rw (k, eq-eqb (length b) blockSize size, e)
 
 -- a block that holds a state has 32 bytes
 pub init-size : (b : List ℕ) (s : State) → init.At s ≡ initHeld b → length b ≡ blockSize
 unfolding initHeld
-init-size b s e = found-whole b (initIn (fieldsOf b)) init.Nothing (init.At s) (λ q. let z : _≡_ {A = ℕ} 0 1 = cc in omega arith) (sym e)
+init-size b s e = found-whole b (initCall.fitting (initIn (fieldsOf b))) init.Nothing (init.At s) (λ q. let z : _≡_ {A = ℕ} 0 1 = cc in omega arith) (sym e)
 
 pub init-slave-size : (b : List ℕ) (s : InitState) → initSlave.At s ≡ initSlaveHeld b → length b ≡ blockSize
 unfolding initSlaveHeld
-init-slave-size b s e = found-whole b (initSlaveIn (fieldsOf b)) initSlave.Nothing (initSlave.At s) (λ q. let z : _≡_ {A = ℕ} 0 1 = cc in omega arith) (sym e)
+init-slave-size b s e = found-whole b (initSlaveCall.fitting (initSlaveIn (fieldsOf b))) initSlave.Nothing (initSlave.At s) (λ q. let z : _≡_ {A = ℕ} 0 1 = cc in omega arith) (sym e)
 
 -- what `validate` answers is the cause
 module _ (c : SlaveConfig) where
@@ -98,3 +100,27 @@ module _ (chip : Chip) (input frequency : ℕ) (duty : Duty) (b : List ℕ) (n :
 
   pub timed-refused : (e : Error) → timed.Refused e ≡ timing chip input frequency duty → n ≡ need.End (failed e) → Does (firstWith chip (timing chip input frequency duty) b) n b
   timed-refused e q k = subst (λ (x : Timed). Does (firstWith chip x b) n b) q (record { need = k; block = refl })
+
+-- ---- which states fit
+
+module _ (f : InitFound) (s : State) (e : f ≡ init.At s) (b : Bool) (q : b ≡ initCall.inRange (s .timing)) where
+  pub fits-in : b ≡ true → init.At s ≡ initCall.fitting f
+  fits-in t = ap (λ (x : Bool). cond x (init.At s) init.Nothing) (sym t ∙ q) ∙ ap initCall.fitting (sym e)
+
+  pub fits-out : b ≡ false → init.Nothing ≡ initCall.fitting f
+  fits-out t = ap (λ (x : Bool). cond x (init.At s) init.Nothing) (sym t ∙ q) ∙ ap initCall.fitting (sym e)
+
+module _ (f : InitSlaveFound) (s : InitState) (e : f ≡ initSlave.At s) (v : Validation) (q : v ≡ validated (s .config)) where
+  pub fits-valid : v ≡ Valid → initSlave.At s ≡ initSlaveCall.fitting f
+  fits-valid t = go (configFault (s .config)) (sym q ∙ t) ∙ ap initSlaveCall.fitting (sym e)
+    where
+      go : (b : Bool) → cond b (Refused InvalidAddress) Valid ≡ Valid → initSlave.At s ≡ cond b initSlave.Nothing (initSlave.At s)
+      go true k = let z : _≡_ {A = ℕ} 0 1 = cc in absurd (omega arith)
+      go false k = refl
+
+  pub fits-refused : (x : Error) → v ≡ Refused x → initSlave.Nothing ≡ initSlaveCall.fitting f
+  fits-refused x t = go (configFault (s .config)) (sym q ∙ t) ∙ ap initSlaveCall.fitting (sym e)
+    where
+      go : (b : Bool) → cond b (Refused InvalidAddress) Valid ≡ Refused x → initSlave.Nothing ≡ cond b initSlave.Nothing (initSlave.At s)
+      go true k = refl
+      go false k = let z : _≡_ {A = ℕ} 0 1 = cc in absurd (omega arith)

@@ -8,15 +8,20 @@ use lib.ListN.{length}
 use Rattle.block.specs.Bytes32.{blockSize, fieldsOf, bytesOf}
 use Rattle.slave.specs.declared.config.SlaveConfig.{SlaveConfig}
 use Rattle.slave.specs.declared.init.InitState.{InitState}
-use Rattle.slave.specs.Init.{initMachine, started, initRefusal}
+use Rattle.slave.specs.Init.{initMachine, started, configFault, initRefusal}
 use Rattle.images.specs.declared.init_slave_image.InitSlaveFound.{InitSlaveFound}
 use Rattle.images.specs.declared.init_slave_image.InitSlaveFound.the-variants.{At, Nothing}
 use Rattle.images.specs.InitSlaveImage.{initSlaveFields, initSlaveIn}
 use Rattle.calls.specs.OnBlock.{After, OnBlock, standing, beginOn}
 
+-- a state whose configuration begin would refuse is none
+abbrev pub fitting : InitSlaveFound → InitSlaveFound
+fitting (At s) = cond (configFault (s .config)) Nothing (At s)
+fitting Nothing = Nothing
+
 -- the state that a block holds
 unfoldable pub initSlaveHeld : List ℕ → InitSlaveFound
-initSlaveHeld block = cond (eqb (length block) blockSize) (initSlaveIn (fieldsOf block)) Nothing
+initSlaveHeld block = cond (eqb (length block) blockSize) (fitting (initSlaveIn (fieldsOf block))) Nothing
 
 abbrev pub stateIn : InitSlaveFound → Option InitState
 stateIn (At s) = some s

@@ -1,9 +1,10 @@
 // `init`.
 ghost use mathlib.Core.Path.{_≡_};
+ghost use mathlib.Core.Bool.{cond};
 ghost use lib.ListN.{length};
 ghost use Rattle.block.specs.Bytes32.{blockSize};
 ghost use Rattle.calls.specs.OnBlock.{standing, stepOn, Does};
-ghost use Rattle.calls.specs.Init.{initHeld, initOn, initBegin};
+ghost use Rattle.calls.specs.Init.{inRange, fitting, initHeld, initOn, initBegin};
 use crate::stepped;
 use access::Error;
 use access::Need;
@@ -17,6 +18,7 @@ use timing::init::Stage;
 use timing::init::State;
 use timing::settings::Duty;
 use timing::settings::Timed;
+use timing::settings::Timing;
 
 // A state in its block, with what it needs.
 fn stands(block: &mut [u8], state: State) -> Need
@@ -57,6 +59,36 @@ pub fn begin(
     }
 }
 
+fn floor(fast: bool) -> u16
+    ensures { λ r. ⌜ r ≡ cond fast 1 4 ⌝ }
+{
+    if fast { 1 } else { 4 }
+}
+
+// A divider that begin can have found: 4, or fast 1, to 4095.
+fn in_range(timing: Timing) -> bool
+    ensures { λ r. ⌜ r ≡ inRange timing ⌝ }
+{
+    (floor(timing.fast) <= timing.divider) & (timing.divider <= 4095)
+}
+
+// A state with another divider is none.
+fn fitting(found: InitFound) -> InitFound
+    ensures { λ r. ⌜ r ≡ fitting found ⌝ }
+{
+    match found {
+        InitFound::At(state) => {
+            let timing = state.timing;
+            if in_range(timing) {
+                InitFound::At(state)
+            } else {
+                InitFound::Nothing
+            }
+        }
+        InitFound::Nothing => InitFound::Nothing,
+    }
+}
+
 // The state that a block holds.
 fn held(block: &[u8]) -> InitFound
     ensures { λ r. ⌜ r ≡ initHeld (now (block .entry)) ⌝ }
@@ -64,7 +96,7 @@ fn held(block: &[u8]) -> InitFound
     if block.len() != bytes32::BLOCK_SIZE {
         return InitFound::Nothing;
     }
-    init_image::init_in(bytes32::fields(block))
+    fitting(init_image::init_in(bytes32::fields(block)))
 }
 
 pub fn step(block: &mut [u8], answer: u16) -> Need

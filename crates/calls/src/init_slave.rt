@@ -3,7 +3,7 @@ ghost use mathlib.Core.Path.{_≡_};
 ghost use lib.ListN.{length};
 ghost use Rattle.block.specs.Bytes32.{blockSize};
 ghost use Rattle.calls.specs.OnBlock.{standing, stepOn, Does};
-ghost use Rattle.calls.specs.InitSlave.{initSlaveHeld, initSlaveOn, initSlaveBegin};
+ghost use Rattle.calls.specs.InitSlave.{fitting, initSlaveHeld, initSlaveOn, initSlaveBegin};
 use crate::stepped;
 use access::Error;
 use access::Need;
@@ -49,6 +49,22 @@ pub fn begin(block: &mut [u8], unknown: bool, config: SlaveConfig) -> Need
     }
 }
 
+// A state whose configuration begin would refuse is none.
+fn fitting(found: InitSlaveFound) -> InitSlaveFound
+    ensures { λ r. ⌜ r ≡ fitting found ⌝ }
+{
+    match found {
+        InitSlaveFound::At(state) => {
+            let config = state.config;
+            match config::validate(config) {
+                Validation::Valid => InitSlaveFound::At(state),
+                Validation::Refused(_) => InitSlaveFound::Nothing,
+            }
+        }
+        InitSlaveFound::Nothing => InitSlaveFound::Nothing,
+    }
+}
+
 // The state that a block holds.
 fn held(block: &[u8]) -> InitSlaveFound
     ensures { λ r. ⌜ r ≡ initSlaveHeld (now (block .entry)) ⌝ }
@@ -56,7 +72,7 @@ fn held(block: &[u8]) -> InitSlaveFound
     if block.len() != bytes32::BLOCK_SIZE {
         return InitSlaveFound::Nothing;
     }
-    init_slave_image::init_slave_in(bytes32::fields(block))
+    fitting(init_slave_image::init_slave_in(bytes32::fields(block)))
 }
 
 pub fn step(block: &mut [u8], answer: u16) -> Need

@@ -1,12 +1,13 @@
 -- A machine whose states stand in blocks is seen through begin and step as it is.
 -- Assumes nothing.
 use mathlib.Core.Path.{_≡_, refl, ap, sym, subst, _∙_}
-use mathlib.Core.Bool.{Bool, true, false, cond, not, true≢false}
-use mathlib.Core.List.{List, [], _∷_}
-use mathlib.Core.Option.{Option, some}
+use mathlib.Core.Bool.{Bool, true, false, not, true≢false, cond}
+use mathlib.Core.List.{List, [], _∷_, _++_}
+use mathlib.Core.Option.{none, some, Option}
 use Prim.Native.Nat.{ℕ, suc}
 use native.Mathlib.Omega.{arith}
 use lib.ListN.{length, length-set}
+use Rattle.access.specs.declared.ending.Ending.{Ending}
 use Rattle.access.specs.declared.ending.Error.the-variants.{InvalidState}
 use Rattle.access.specs.declared.need.Need.{Need}
 use Rattle.access.specs.declared.need.Need.the-variants as need
@@ -86,6 +87,53 @@ ended-stored bytes (need.Keep p) a rest r e = absurd (true≢false (sym e))
 ended-stored bytes need.Drop a rest r e = absurd (true≢false (sym e))
 ended-stored bytes (need.End x) a rest r e = refl
 
+-- what is handed out for an end, and for what is none
+pub filled-end : (bytes : List ℕ) (n : Need) → fed.isEnd (filled bytes n) ≡ isEnd n
+filled-end bytes (need.Read x) = refl
+filled-end bytes (need.Write x v) = refl
+filled-end bytes need.Clock = refl
+filled-end bytes (need.Send p) = refl
+filled-end bytes (need.Keep p) = refl
+filled-end bytes need.Drop = refl
+filled-end bytes (need.End e) = refl
+
+-- what is shown of an end, and of what is none
+pub owed-end : (bytes : List ℕ) (n : Need) (x : Ending) → seenOwed bytes n .end ≡ some x → isEnd n ≡ true
+owed-end bytes (need.Read y) x q = let z : _≡_ {A = ℕ} 0 1 = cc in absurd (omega arith)
+owed-end bytes (need.Write y v) x q = let z : _≡_ {A = ℕ} 0 1 = cc in absurd (omega arith)
+owed-end bytes need.Clock x q = let z : _≡_ {A = ℕ} 0 1 = cc in absurd (omega arith)
+owed-end bytes (need.Send p) x q = let z : _≡_ {A = ℕ} 0 1 = cc in absurd (omega arith)
+owed-end bytes (need.Keep p) x q = let z : _≡_ {A = ℕ} 0 1 = cc in absurd (omega arith)
+owed-end bytes need.Drop x q = let z : _≡_ {A = ℕ} 0 1 = cc in absurd (omega arith)
+owed-end bytes (need.End e) x q = refl
+
+owed-open : (bytes : List ℕ) (n : Need) → seenOwed bytes n .end ≡ none → isEnd n ≡ false
+owed-open bytes (need.Read y) q = refl
+owed-open bytes (need.Write y v) q = refl
+owed-open bytes need.Clock q = refl
+owed-open bytes (need.Send p) q = refl
+owed-open bytes (need.Keep p) q = refl
+owed-open bytes need.Drop q = refl
+owed-open bytes (need.End e) q = let z : _≡_ {A = ℕ} 0 1 = cc in absurd (omega arith)
+
+ended-closed : (bytes : List ℕ) (n : Need) (a : ℕ) (rest : Shown) → isEnd n ≡ true → seenAnswered bytes n a rest .end ≡ none → ⊥
+ended-closed bytes (need.Read x) a rest e q = true≢false (sym e)
+ended-closed bytes (need.Write x v) a rest e q = true≢false (sym e)
+ended-closed bytes need.Clock a rest e q = true≢false (sym e)
+ended-closed bytes (need.Send p) a rest e q = true≢false (sym e)
+ended-closed bytes (need.Keep p) a rest e q = true≢false (sym e)
+ended-closed bytes need.Drop a rest e q = true≢false (sym e)
+ended-closed bytes (need.End x) a rest e q = let z : _≡_ {A = ℕ} 0 1 = cc in omega arith
+
+answered-end : (bytes : List ℕ) (n : Need) (a : ℕ) (rest : Shown) → isEnd n ≡ false → seenAnswered bytes n a rest .end ≡ rest .end
+answered-end bytes (need.Read x) a rest e = refl
+answered-end bytes (need.Write x v) a rest e = refl
+answered-end bytes need.Clock a rest e = refl
+answered-end bytes (need.Send p) a rest e = refl
+answered-end bytes (need.Keep p) a rest e = refl
+answered-end bytes need.Drop a rest e = refl
+answered-end bytes (need.End x) a rest e = absurd (true≢false e)
+
 -- ---- the machine m, with these bytes lent and so many bytes to read, seen through the entry c
 
 pub record Carries (m : Machine) (bytes : List ℕ) (room : ℕ) (c : Entry) (image : m .State → List ℕ) (Good : m .State → Type 0) : Type 0 where
@@ -149,15 +197,6 @@ module _ {m : Machine} {bytes : List ℕ} {room : ℕ} {c : Entry} {image : m .S
   still-ended s r g l e (a ∷ a′ ∷ answers) =
       ((λ _. k .ended s r a g l e), subst (λ (h : Left). EndsStill (leftsFrom c h (a′ ∷ answers))) (sym (k .ended s r a g l e)) (still-ended s r g l e (a′ ∷ answers)))
 
-  filled-end : (n : Need) → fed.isEnd (filled bytes n) ≡ isEnd n
-  filled-end (need.Read x) = refl
-  filled-end (need.Write x v) = refl
-  filled-end need.Clock = refl
-  filled-end (need.Send p) = refl
-  filled-end (need.Keep p) = refl
-  filled-end need.Drop = refl
-  filled-end (need.End e) = refl
-
   -- the first of a list of what is left
   first-still : (h : Left) (rest : List ℕ) (x : Left) → (fed.isEnd (x .next) ≡ true → h ≡ refusedWith InvalidState (x .block) (x .read)) → EndsStill (leftsFrom c h rest) → Still x (leftsFrom c h rest)
   first-still h [] x p q = (p, tt)
@@ -169,10 +208,52 @@ module _ {m : Machine} {bytes : List ℕ} {room : ℕ} {c : Entry} {image : m .S
     where
       go : (b : Bool) → isEnd (m .need s) ≡ b → EndsStill (leftsFrom c (leftAt (m .move s a) (kept (m .need s) a r)) answers) → Still (leftAt s r) (leftsFrom c (c .step (image s) r a) answers)
       go false e h =
-          first-still (c .step (image s) r a) answers (leftAt s r) (λ z. absurd (true≢false (sym z ∙ filled-end (m .need s) ∙ e)))
+          first-still (c .step (image s) r a) answers (leftAt s r) (λ z. absurd (true≢false (sym z ∙ filled-end bytes (m .need s) ∙ e)))
           (subst (λ (x : Left). EndsStill (leftsFrom c x answers)) (sym (k .taken s r a g l e)) h)
       go true e h =
           first-still (c .step (image s) r a) answers (leftAt s r) (λ _. k .ended s r a g l e) (subst (λ (x : Left). EndsStill (leftsFrom c x answers)) (sym (k .ended s r a g l e)) (still-ended s r g l e answers))
+
+  -- behind the end a step is refused, and leaves what the last one left
+  ended-left : (s : m .State) (r : List ℕ) → Good s → length r ≡ room → isEnd (m .need s) ≡ true → (answers : List ℕ) → lastFrom c (refusedWith InvalidState (image s) r) answers ≡ refusedWith InvalidState (image s) r
+  ended-left s r g l e [] = refl
+  ended-left s r g l e (a ∷ answers) = ap (λ (h : Left). lastFrom c h answers) (k .ended s r a g l e) ∙ ended-left s r g l e answers
+
+  carried-over : (s : m .State) (r : List ℕ) → Good s → length r ≡ room → (answers : List ℕ) (x : Ending) → shownFrom m bytes s answers .end ≡ some x → (a : ℕ)
+      → lastFrom c (leftAt s r) (answers ++ (a ∷ [])) ≡ refusedWith InvalidState (lastFrom c (leftAt s r) answers .block) (lastFrom c (leftAt s r) answers .read)
+  carried-over s r g l [] x q a = k .ended s r a g l (owed-end bytes (m .need s) x q)
+  carried-over s r g l (b ∷ answers) x q a = go (isEnd (m .need s)) refl (carried-over (m .move s b) (kept (m .need s) b r) (k .stays s b g) (kept-length (m .need s) b r ∙ l) answers x)
+    where
+      go : (t : Bool) → isEnd (m .need s) ≡ t
+          → (shownFrom m bytes (m .move s b) answers .end ≡ some x → (a : ℕ)
+          → lastFrom c (leftAt (m .move s b) (kept (m .need s) b r)) (answers ++ (a ∷ []))
+          ≡ refusedWith InvalidState (lastFrom c (leftAt (m .move s b) (kept (m .need s) b r)) answers .block) (lastFrom c (leftAt (m .move s b) (kept (m .need s) b r)) answers .read))
+          → lastFrom c (c .step (image s) r b) (answers ++ (a ∷ [])) ≡ refusedWith InvalidState (lastFrom c (c .step (image s) r b) answers .block) (lastFrom c (c .step (image s) r b) answers .read)
+      go false e h =
+          subst (λ (y : Left). lastFrom c y (answers ++ (a ∷ [])) ≡ refusedWith InvalidState (lastFrom c y answers .block) (lastFrom c y answers .read)) (sym (k .taken s r b g l e))
+          (h (sym (answered-end bytes (m .need s) b (shownFrom m bytes (m .move s b) answers) e) ∙ q) a)
+      go true e h =
+          subst (λ (y : Left). lastFrom c y (answers ++ (a ∷ [])) ≡ refusedWith InvalidState (lastFrom c y answers .block) (lastFrom c y answers .read)) (sym (k .ended s r b g l e))
+          (ended-left s r g l e (answers ++ (a ∷ [])) ∙ ap (λ (y : Left). refusedWith InvalidState (y .block) (y .read)) (sym (ended-left s r g l e answers)))
+
+  -- while there is no end a step takes the block that is left
+  module _ (takes : List ℕ → List ℕ → Bool) (law : (s : m .State) (r : List ℕ) → Good s → length r ≡ room → takes (image s) r ≡ not (isEnd (m .need s))) where
+    carried-open : (s : m .State) (r : List ℕ) → Good s → length r ≡ room → (answers : List ℕ) → shownFrom m bytes s answers .end ≡ none
+        → takes (lastFrom c (leftAt s r) answers .block) (lastFrom c (leftAt s r) answers .read) ≡ true
+    carried-open s r g l [] q = law s r g l ∙ ap not (owed-open bytes (m .need s) q)
+    carried-open s r g l (a ∷ answers) q = go (isEnd (m .need s)) refl (carried-open (m .move s a) (kept (m .need s) a r) (k .stays s a g) (kept-length (m .need s) a r ∙ l) answers)
+      where
+        go : (t : Bool) → isEnd (m .need s) ≡ t
+            → (shownFrom m bytes (m .move s a) answers .end ≡ none
+            → takes (lastFrom c (leftAt (m .move s a) (kept (m .need s) a r)) answers .block) (lastFrom c (leftAt (m .move s a) (kept (m .need s) a r)) answers .read) ≡ true)
+            → takes (lastFrom c (c .step (image s) r a) answers .block) (lastFrom c (c .step (image s) r a) answers .read) ≡ true
+        go false e h =
+            subst (λ (x : Left). takes (lastFrom c x answers .block) (lastFrom c x answers .read) ≡ true) (sym (k .taken s r a g l e))
+            (h (sym (answered-end bytes (m .need s) a (shownFrom m bytes (m .move s a) answers) e) ∙ q))
+        go true e h = absurd (ended-closed bytes (m .need s) a (shownFrom m bytes (m .move s a) answers) e q)
+
+    pub still-open : (s : m .State) (b r : List ℕ) → Good s → length r ≡ room → c .begin b r ≡ leftAt s r → (answers : List ℕ) → shownFrom m bytes s answers .end ≡ none
+        → takes (lastFrom c (c .begin b r) answers .block) (lastFrom c (c .begin b r) answers .read) ≡ true
+    still-open s b r g l e answers q = subst (λ (x : Left). takes (lastFrom c x answers .block) (lastFrom c x answers .read) ≡ true) (sym e) (carried-open s r g l answers q)
 
   -- begin leaves a state's image: then the call makes what the machine shows
   pub carried : (s : m .State) (b r : List ℕ) → Good s → length r ≡ room → c .begin b r ≡ leftAt s r → (answers : List ℕ) → Makes c b r answers (shownFrom m bytes s answers)
@@ -182,6 +263,46 @@ module _ {m : Machine} {bytes : List ℕ} {room : ℕ} {c : Entry} {image : m .S
         still = subst (λ (h : Left). EndsStill (leftsFrom c h answers)) (sym e) (carried-still s r g l answers);
         read = ap (λ (h : Left). lastFrom c h answers .read) e ∙ carried-read s r g l answers;
       }
+
+  -- and behind its end nothing changes
+  pub over : (s : m .State) (b r : List ℕ) → Good s → length r ≡ room → c .begin b r ≡ leftAt s r → (answers : List ℕ) (x : Ending) → shownFrom m bytes s answers .end ≡ some x → (a : ℕ)
+      → lastFrom c (c .begin b r) (answers ++ (a ∷ [])) ≡ refusedWith InvalidState (lastFrom c (c .begin b r) answers .block) (lastFrom c (c .begin b r) answers .read)
+  over s b r g l e answers x q a =
+      subst (λ (y : Left). lastFrom c y (answers ++ (a ∷ [])) ≡ refusedWith InvalidState (lastFrom c y answers .block) (lastFrom c y answers .read)) (sym e) (carried-over s r g l answers x q a)
+
+-- what is shown of an ended state, whatever the answers; and behind an end
+ended-shown : (m : Machine) (bytes : List ℕ) (s : m .State) (answers more : List ℕ) → isEnd (m .need s) ≡ true → shownFrom m bytes s (answers ++ more) ≡ shownFrom m bytes s answers
+ended-shown m bytes s [] [] e = refl
+ended-shown m bytes s [] (b ∷ more) e = ended-owed bytes (m .need s) b (shownFrom m bytes (m .move s b) more) e
+  where
+    ended-owed : (bytes : List ℕ) (n : Need) (a : ℕ) (rest : Shown) → isEnd n ≡ true → seenAnswered bytes n a rest ≡ seenOwed bytes n
+    ended-owed bytes (need.Read x) a rest e = absurd (true≢false (sym e))
+    ended-owed bytes (need.Write x v) a rest e = absurd (true≢false (sym e))
+    ended-owed bytes need.Clock a rest e = absurd (true≢false (sym e))
+    ended-owed bytes (need.Send p) a rest e = absurd (true≢false (sym e))
+    ended-owed bytes (need.Keep p) a rest e = absurd (true≢false (sym e))
+    ended-owed bytes need.Drop a rest e = absurd (true≢false (sym e))
+    ended-owed bytes (need.End x) a rest e = refl
+ended-shown m bytes s (a ∷ answers) more e = ended-answered bytes (m .need s) a (shownFrom m bytes (m .move s a) (answers ++ more)) (shownFrom m bytes (m .move s a) answers) e
+  where
+    ended-answered : (bytes : List ℕ) (n : Need) (a : ℕ) (x y : Shown) → isEnd n ≡ true → seenAnswered bytes n a x ≡ seenAnswered bytes n a y
+    ended-answered bytes (need.Read r) a x y e = absurd (true≢false (sym e))
+    ended-answered bytes (need.Write r v) a x y e = absurd (true≢false (sym e))
+    ended-answered bytes need.Clock a x y e = absurd (true≢false (sym e))
+    ended-answered bytes (need.Send p) a x y e = absurd (true≢false (sym e))
+    ended-answered bytes (need.Keep p) a x y e = absurd (true≢false (sym e))
+    ended-answered bytes need.Drop a x y e = absurd (true≢false (sym e))
+    ended-answered bytes (need.End z) a x y e = refl
+
+pub shown-over : (m : Machine) (bytes : List ℕ) (s : m .State) (answers more : List ℕ) (x : Ending) → shownFrom m bytes s answers .end ≡ some x → shownFrom m bytes s (answers ++ more) ≡ shownFrom m bytes s answers
+shown-over m bytes s [] more x q = ended-shown m bytes s [] more (owed-end bytes (m .need s) x q)
+shown-over m bytes s (a ∷ answers) more x q = go (isEnd (m .need s)) refl (shown-over m bytes (m .move s a) answers more x)
+  where
+    go : (t : Bool) → isEnd (m .need s) ≡ t
+        → (shownFrom m bytes (m .move s a) answers .end ≡ some x → shownFrom m bytes (m .move s a) (answers ++ more) ≡ shownFrom m bytes (m .move s a) answers)
+        → shownFrom m bytes s (a ∷ (answers ++ more)) ≡ shownFrom m bytes s (a ∷ answers)
+    go true e h = ended-shown m bytes s (a ∷ answers) more e
+    go false e h = ap (seenAnswered bytes (m .need s) a) (h (sym (answered-end bytes (m .need s) a (shownFrom m bytes (m .move s a) answers) e) ∙ q))
 
 -- an entry that lends nothing to read
 abbrev pub unread : Entry → Entry

@@ -1,57 +1,74 @@
 -- The three demands hold.
 -- Assumes nothing.
 use mathlib.Core.Path.{_≡_, refl, ap, sym, subst, _∙_}
-use mathlib.Core.Bool.{true, false, not, _||_}
-use mathlib.Core.List.{List, [], map}
+use mathlib.Core.Bool.{Bool, true, false, cond, not, _||_, true≢false}
+use mathlib.Core.List.{List, [], _∷_, _++_, map}
 use mathlib.Core.Option.{Option, none, some}
-use Prim.Native.Nat.{ℕ, _<_}
+use Prim.Native.Nat.{ℕ, suc, _+_, _<_, _≤_}
 use native.Mathlib.Omega.{arith}
-use lib.Dec.{ltb}
-use lib.ListN.{length, take, length-take}
+use lib.Dec.{eqb, ltb}
+use lib.ListN.{length, take, length-map}
+use lib.Seq.{take-all}
+use borrow.Author.Tests.{ltb-false, le-ltb}
 use Rattle.access.specs.declared.ending.Ending.{Ending}
 use Rattle.access.specs.declared.ending.Error.{Error}
-use Rattle.access.specs.declared.ending.Error.the-variants.{InvalidState}
-use Rattle.access.specs.Endings.{returned, failed}
-use Rattle.access.specs.Record.{Shown, noMore, DifferInPayload, Same, SameStruck, EndsAlike, struck}
+use Rattle.access.specs.declared.ending.Error.the-variants.{InvalidState, InvalidArgument, InvalidAddress, BufferTooLong}
+use Rattle.access.specs.declared.ending.Ending.the-variants.{Failed}
+use Rattle.access.specs.Endings.{done, returned, failed}
+use Rattle.access.specs.Program.{Program, finish}
+use Rattle.access.specs.Record.{Shown, noMore, shownOf, DifferInPayload, Same, SameStruck, EndsAlike, struck}
 use Rattle.access.specs.Machine.{shownFrom}
 use Rattle.access.proofs.NumberLaws.{number-injective}
 use Rattle.alike.specs.Like.{forgetEnd, forgetting}
 use Rattle.errors.proofs.CheckLaws.{others-stay}
-use Rattle.block.specs.Bytes32.{Bytes}
+use Rattle.operations.specs.Operations.{operationsOf}
+use Rattle.operations.proofs.SumLaws.{written-runs}
+use Rattle.block.specs.Bytes32.{blockSize, Bytes}
 use Rattle.timing.specs.declared.settings.Timed.{Timed}
 use Rattle.timing.specs.declared.settings.Timed.the-variants as timed
 use Rattle.timing.specs.Rust.{timing}
+use Rattle.timing.specs.Machine as initMachine
 use Rattle.timing.proofs.InitAgrees.{init-is-the-rust}
 use Rattle.master.specs.declared.call.Call as master
 use Rattle.master.specs.declared.call.Kind.the-variants as kind
-use Rattle.master.specs.Calls.{Lent, lentWith, refusal, callShown, seenAfter, spansBy, spansOf}
+use Rattle.master.specs.Calls.{Lent, lentWith, cut, refuse, refusal, InForm, rustWith, oursWith, callShown, seenAfter, spansBy, spansOf}
 use Rattle.master.specs.Claims.{Comparable}
+use Rattle.master.specs.Joined.{Joined, JW, JR, joined}
+use Rattle.master.specs.Rust.{theRust}
+use Rattle.master.specs.Ours as masterOurs
 use Rattle.master.proofs.CallAgrees.{master-is-ours}
+use Rattle.master.proofs.LentLaws.{bytesJ, list-bytes}
 use Rattle.master.proofs.Joining.{runs-join}
 use Rattle.master.proofs.OursIsTheRust as masterIs
 use Rattle.master.proofs.Secret.{master-is-secret}
 use Rattle.slave.specs.declared.config.SlaveConfig.{SlaveConfig}
 use Rattle.slave.specs.declared.state.Kind as slave
-use Rattle.slave.specs.Machine as slaveMachine
 use Rattle.slave.specs.declared.state.Kind.the-variants.{Listen, RespondToWrite, RespondToRead}
 use Rattle.slave.specs.Init as initSlaveMachine
-use Rattle.slave.specs.Calls.{SlaveLent, sizeOf, sizeRefusal, initShown, rustInit, slaveShown}
+use Rattle.slave.specs.Calls.{sizeOf, sizeRefusal, initShown, rustInit, slaveShown}
 use Rattle.slave.specs.Calls as slaveCalls
-use Rattle.slave.specs.Claims.{Any}
 use Rattle.slave.proofs.CallAgrees.{slave-is-ours}
 use Rattle.slave.proofs.OursIsTheRust as slaveIs
 use Rattle.slave.proofs.Secret.{slave-is-secret}
 use Rattle.slave_driver.specs.Lent as slaveLent
-use Rattle.images.specs.Numbers.{chipOf, transactionEntry, writeReadEntry, writeEntry, readEntry}
+use Rattle.images.specs.Numbers.{chipOf, transactionEntry, writeReadEntry, writeEntry, readEntry, listenEntry, respondToWriteEntry, respondToReadEntry}
 use Rattle.images.specs.MasterImage.{frameOptionsOf}
 use Rattle.ch32_i2c.specs.Left.{Left, refusedWith}
-use Rattle.ch32_i2c.specs.Fed.{Makes, struckBy}
+use Rattle.ch32_i2c.specs.Fed.{lefts, handedOut, stored, Makes, Begins, Seen, seenOf, recordIn, StruckSeen, struckBy, asSeen, struckIn, DifferAtPayload, payloadIn}
+use Rattle.ch32_i2c.specs.Manual.{Keeps}
 use Rattle.ch32_i2c.specs.Init as cInit
-use Rattle.ch32_i2c.specs.Transfer.{callOf}
+use Rattle.ch32_i2c.specs.Transfer.{callOf, masterBegin}
 use Rattle.ch32_i2c.specs.InitSlave as cInitSlave
-use Rattle.ch32_i2c.specs.Demands.{Call, init, transaction, writeRead, write, read, initSlave, listen, respondToWrite, respondToRead, entryOf, Reads, unknown, ownRefusal, refusalOf, Accepted, timedRefusal, rust, ours, endAsTheRust, timedShown, NoneAdded, IsMet, takes, Demand1, Demand2, Demand3, SeenAlike, SameRuns, transactions, writeReads, writes, reads, writtenBy, recordAfter, endAfter, struckAfter}
-use Rattle.ch32_i2c.proofs.Recorded.{seenOf, asSeen, record-is, end-is, struck-is}
-use Rattle.ch32_i2c.proofs.CallsRun.{parts, Runs, transfer-runs, write-runs, response-runs, unread-runs, init-runs, init-slave-runs, shownTimed, small}
+use Rattle.ch32_i2c.specs.Demands.{Call, init, transaction, writeRead, write, read, initSlave, listen, respondToWrite, respondToRead, entryOf, Reads, unknown, ownRefusal, refusalOf, Accepted, timedRefusal, rust, ours, endAsTheRust, timedShown, theRusts, NoneAdded, IsMet, takes, nothingToDo, Over, Demand1, Demand2, Demand3, SeenAlike, SameRuns, transactions, writeReads, writes, reads, bytesOfRun, writtenRuns, oursAfter, recordAfter, endAfter, struckAfter, Records, RecordsRust, runsShown, wordsOf, OfDemand2, RepliesEnd, SeenSame}
+use Rattle.ch32_i2c.proofs.Recorded.{record-is, end-is, struck-same}
+use Rattle.ch32_i2c.proofs.PayloadLaws.{differ-same, Answered, answered, answers-same}
+use Rattle.ch32_i2c.proofs.CallsRun.{parts, Runs, begin-left, response-left, transfer-runs, write-runs, response-runs, unread-runs, init-runs, init-slave-runs, shownTimed, small}
+use Rattle.ch32_i2c.proofs.SlaveEnds.{reply-ends, reply-end, listen-ends, tells-command, tells-status, tells-count}
+use Rattle.ch32_i2c.proofs.Begins.{transaction-starts, write-read-starts, frame-starts, read-starts, transfer-begins, response-begins, init-begins, init-slave-begins}
+use Rattle.ch32_i2c.proofs.Goes.{Is15, init-goes, master-goes, init-slave-goes, slave-goes}
+use Rattle.ch32_i2c.proofs.RustRefuses.{master-refused, master-unadded, timing-added}
+use Rattle.ch32_i2c.proofs.RunsRecord.{transaction-runs}
+use Rattle.ch32_i2c.proofs.Words.{second-false, address-passed, Obey, struck-keeps, transfer-obeys, init-slave-obeys, init-obeys, obeys-free}
 use Rattle.ch32_i2c.proofs.Refuses.{transfer-refuses, response-refuses, init-refuses, init-slave-refuses}
 use Rattle.ch32_i2c.proofs.Stops.{init-stops, master-stops, init-slave-stops, slave-stops}
 
@@ -69,12 +86,18 @@ shownBy (respondToWrite chip) room = slaveShown (chipOf chip) RespondToWrite (sl
 shownBy (respondToRead chip reply) room = slaveShown (chipOf chip) RespondToRead (slaveLent.lentWith reply 0)
 
 -- where nothing is lent to read
-at-nothing : (c : Call) (block bytes : List ℕ) → bytes ≡ [] → (Accepted c block [] → Runs (entryOf c) block [] (shownBy c 0)) → Accepted c block bytes → Runs (entryOf c) block bytes (shownBy c (length bytes))
-at-nothing c block bytes e f a = subst (λ (r : List ℕ). Accepted c block r → Runs (entryOf c) block r (shownBy c (length r))) (sym e) f a
+at-nothing : (c : Call) (P : List ℕ → Type 0) (block bytes : List ℕ) → bytes ≡ [] → (Accepted c block [] → P []) → Accepted c block bytes → P bytes
+at-nothing c P block bytes e f a = subst (λ (r : List ℕ). Accepted c block r → P r) (sym e) f a
 
-runs : (c : Call) (block bytes : List ℕ) → Reads c bytes → Accepted c block bytes → Runs (entryOf c) block bytes (shownBy c (length bytes))
+abbrev Run : Call → List ℕ → List ℕ → Type 0
+Run c block bytes = Runs (entryOf c) (takes c) block bytes (shownBy c (length bytes))
+
+abbrev Begun : Call → List ℕ → List ℕ → Type 0
+Begun c block bytes = Begins (entryOf c) (takes c) (nothingToDo c) block bytes
+
+runs : (c : Call) (block bytes : List ℕ) → Reads c bytes → Accepted c block bytes → Run c block bytes
 runs (init chip input frequency duty) block bytes e a =
-    at-nothing (init chip input frequency duty) block bytes e
+    at-nothing (init chip input frequency duty) (Run (init chip input frequency duty) block) block bytes e
     (λ a. let p = parts (init chip input frequency duty) block [] a in init-runs chip input frequency duty block (p .size) (p .known) (p .own)) a
 runs (transaction chip address list written) block bytes e a =
     let p = parts (transaction chip address list written) block bytes a in
@@ -83,22 +106,22 @@ runs (writeRead chip address written) block bytes e a =
     let p = parts (writeRead chip address written) block bytes a in
     transfer-runs (callOf chip address kind.WriteRead) (lentWith [] written (length bytes)) (p .own) (unknown (writeRead chip address written)) block bytes (p .size) (p .known) refl
 runs (write chip address option written) block bytes e a =
-    at-nothing (write chip address option written) block bytes e
+    at-nothing (write chip address option written) (Run (write chip address option written) block) block bytes e
     (λ a. let p = parts (write chip address option written) block [] a in write-runs (callOf chip address (kind.Write (frameOptionsOf option))) written (p .own) (unknown (write chip address option written)) block (p .size) (p .known)) a
 runs (read chip address option) block bytes e a =
     let p = parts (read chip address option) block bytes a in
     transfer-runs (callOf chip address (kind.Read (frameOptionsOf option))) (lentWith [] [] (length bytes)) (p .own) (unknown (read chip address option)) block bytes (p .size) (p .known) refl
 runs (initSlave ten address has second general stretching) block bytes e a =
-    at-nothing (initSlave ten address has second general stretching) block bytes e
+    at-nothing (initSlave ten address has second general stretching) (Run (initSlave ten address has second general stretching) block) block bytes e
     (λ a. let p = parts (initSlave ten address has second general stretching) block [] a in init-slave-runs ten address has second general stretching block (p .size) (p .known) (p .own)) a
 runs (listen chip) block bytes e a =
-    at-nothing (listen chip) block bytes e
+    at-nothing (listen chip) (Run (listen chip) block) block bytes e
     (λ a. let p = parts (listen chip) block [] a in unread-runs chip Listen [] (omega arith) block (p .size) (p .known)) a
 runs (respondToWrite chip) block bytes e a =
     let p = parts (respondToWrite chip) block bytes a in
     response-runs chip RespondToWrite (slaveLent.lentWith [] (length bytes)) (small (length bytes) (p .own)) block bytes (p .size) (p .known) refl
 runs (respondToRead chip reply) block bytes e a =
-    at-nothing (respondToRead chip reply) block bytes e
+    at-nothing (respondToRead chip reply) (Run (respondToRead chip reply) block) block bytes e
     (λ a. let p = parts (respondToRead chip reply) block [] a in unread-runs chip RespondToRead reply (small (length reply) (p .own)) block (p .size) (p .known)) a
 
 -- ---- it is our text's
@@ -177,33 +200,48 @@ none-added (respondToRead chip reply) room q = small (length reply) q
 accepted-ours : (c : Call) (block bytes : List ℕ) → Accepted c block bytes → (turns : ℕ) (answers : List ℕ) → length answers < turns → shownBy c (length bytes) answers ≡ ours turns c (length bytes) answers
 accepted-ours c block bytes a turns answers h = shown-ours c (length bytes) (none-added c (length bytes) (parts c block bytes a .own)) turns answers h
 
--- a refused call shows its refusal
-call-refused : (c : master.Call) (l : Lent) (e : Error) → refusal c l ≡ some e → (answers : List ℕ) → callShown c l answers ≡ noMore (some (failed e))
-unfolding callShown
-call-refused c l e q answers = ap (λ (o : Option Error). seenAfter o c l answers) q
-
-timed-refused : (chip : ℕ) (x : Timed) (e : Error) → timedRefusal x ≡ some e → (answers : List ℕ) → shownTimed chip x answers ≡ noMore (some (failed e))
-timed-refused chip (timed.At t) e q answers = let z : _≡_ {A = ℕ} 0 1 = cc in absurd (omega arith)
-timed-refused chip (timed.Refused f) e q answers = let z : f ≡ e = cc in ap (λ (x : Error). noMore (some (failed x))) z
-
+-- the Rust refuses with 6 and 9
 init-slave-refused : (c : SlaveConfig) (e : Error) → initSlaveMachine.initRefusal c ≡ some e → (answers : List ℕ) → initShown c answers ≡ noMore (some (failed e))
 unfolding initShown
 init-slave-refused c e q answers = ap (λ (o : Option Error). slaveCalls.seenAfter o (shownFrom initSlaveMachine.initMachine [] (initSlaveMachine.started c) answers)) q
 
-slave-refused : (chip : ℕ) (x : slave.Kind) (l : SlaveLent) (e : Error) → sizeRefusal (sizeOf x l) ≡ some e → (answers : List ℕ) → slaveShown (chipOf chip) x l answers ≡ noMore (some (failed e))
-unfolding slaveShown
-slave-refused chip x l e q answers = ap (λ (o : Option Error). slaveCalls.seenAfter o (shownFrom (slaveMachine.slave (slaveCalls.settingOf (chipOf chip) x l)) (slaveCalls.bytesOf x l) (slaveMachine.start x) answers)) q
+size-added : {P : Type 0} (n : ℕ) (e : Error) → theRusts e ≡ true → sizeRefusal n ≡ some e → P
+size-added n e r q = go (ltb 65535 n) q
+  where
+    go : {P : Type 0} (b : Bool) → cond b (some BufferTooLong) none ≡ some e → P
+    go true q = let z : BufferTooLong ≡ e = cc in absurd (true≢false (sym r ∙ ap theRusts (sym z)))
+    go false q = let z : _≡_ {A = ℕ} 0 1 = cc in absurd (omega arith)
 
-shown-refused : (c : Call) (room : ℕ) (e : Error) → ownRefusal c room ≡ some e → (answers : List ℕ) → shownBy c room answers ≡ noMore (some (failed e))
-shown-refused (init chip input frequency duty) room e q answers = timed-refused chip (timing (chipOf chip) input frequency (cInit.dutyOf duty)) e q answers
-shown-refused (transaction chip address list written) room e q answers = call-refused (callOf chip address kind.Transaction) (lentWith list written room) e q answers
-shown-refused (writeRead chip address written) room e q answers = call-refused (callOf chip address kind.WriteRead) (lentWith [] written room) e q answers
-shown-refused (write chip address option written) room e q answers = call-refused (callOf chip address (kind.Write (frameOptionsOf option))) (lentWith [] written 0) e q answers
-shown-refused (read chip address option) room e q answers = call-refused (callOf chip address (kind.Read (frameOptionsOf option))) (lentWith [] [] room) e q answers
-shown-refused (initSlave ten address has second general stretching) room e q answers = init-slave-refused (cInitSlave.configOf ten address has second general stretching) e q answers
-shown-refused (listen chip) room e q answers = let z : _≡_ {A = ℕ} 0 1 = cc in absurd (omega arith)
-shown-refused (respondToWrite chip) room e q answers = slave-refused chip RespondToWrite (slaveLent.lentWith [] room) e q answers
-shown-refused (respondToRead chip reply) room e q answers = slave-refused chip RespondToRead (slaveLent.lentWith reply 0) e q answers
+rust-refused : (c : Call) (room : ℕ) (e : Error) → ownRefusal c room ≡ some e → theRusts e ≡ true → (turns : ℕ) (answers : List ℕ) → length answers < turns → rust turns c room answers ≡ noMore (some (failed e))
+rust-refused (init chip input frequency duty) room e q r turns answers h = timing-added (chipOf chip) input frequency (cInit.dutyOf duty) e r q
+rust-refused (transaction chip address list written) room e q r turns answers h = master-refused (callOf chip address kind.Transaction) (lentWith list written room) turns answers e r q
+rust-refused (writeRead chip address written) room e q r turns answers h = master-refused (callOf chip address kind.WriteRead) (lentWith [] written room) turns answers e r q
+rust-refused (write chip address option written) room e q r turns answers h = master-refused (callOf chip address (kind.Write (frameOptionsOf option))) (lentWith [] written 0) turns answers e r q
+rust-refused (read chip address option) room e q r turns answers h = master-refused (callOf chip address (kind.Read (frameOptionsOf option))) (lentWith [] [] room) turns answers e r q
+rust-refused (initSlave ten address has second general stretching) room e q r turns answers h =
+    let c = cInitSlave.configOf ten address has second general stretching in
+    sym (slave-is-ours .init c turns answers h) ∙ init-slave-refused c e q answers
+rust-refused (listen chip) room e q r turns answers h = let z : _≡_ {A = ℕ} 0 1 = cc in absurd (omega arith)
+rust-refused (respondToWrite chip) room e q r turns answers h = size-added room e r q
+rust-refused (respondToRead chip reply) room e q r turns answers h = size-added (length reply) e r q
+
+small-refused : {P : Type 0} (n : ℕ) (e : Error) → n ≤ 65535 → sizeRefusal n ≡ some e → P
+small-refused n e h q = let z : none ≡ some e = ap (λ (b : Bool). cond b (some BufferTooLong) none) (sym (le-ltb 65535 n h)) ∙ q in let y : _≡_ {A = ℕ} 0 1 = cc in absurd (omega arith)
+
+config-refused : (b : Bool) (e : Error) → cond b (some InvalidAddress) none ≡ some e → theRusts e ≡ true
+config-refused true e q = let z : InvalidAddress ≡ e = cc in ap theRusts (sym z)
+config-refused false e q = let z : _≡_ {A = ℕ} 0 1 = cc in absurd (omega arith)
+
+unadded : (c : Call) (room : ℕ) (e : Error) → NoneAdded c room → ownRefusal c room ≡ some e → theRusts e ≡ true
+unadded (init chip input frequency duty) room e n q = let y : _≡_ {A = ℕ} 0 1 = cc in absurd (omega arith)
+unadded (transaction chip address list written) room e n q = master-unadded (callOf chip address kind.Transaction) (lentWith list written room) e n q
+unadded (writeRead chip address written) room e n q = master-unadded (callOf chip address kind.WriteRead) (lentWith [] written room) e n q
+unadded (write chip address option written) room e n q = master-unadded (callOf chip address (kind.Write (frameOptionsOf option))) (lentWith [] written 0) e n q
+unadded (read chip address option) room e n q = master-unadded (callOf chip address (kind.Read (frameOptionsOf option))) (lentWith [] [] room) e n q
+unadded (initSlave ten address has second general stretching) room e n q = config-refused (initSlaveMachine.configFault (cInitSlave.configOf ten address has second general stretching)) e q
+unadded (listen chip) room e n q = let z : _≡_ {A = ℕ} 0 1 = cc in absurd (omega arith)
+unadded (respondToWrite chip) room e n q = small-refused room e n q
+unadded (respondToRead chip reply) room e n q = small-refused (length reply) e n q
 
 -- ---- begin refuses with the first cause
 
@@ -238,69 +276,275 @@ stops (listen chip) b r k w q a = stopped b r _ k (slave-stops Listen b (slaveLe
 stops (respondToWrite chip) b r k w q a = slave-stops RespondToWrite b (slaveLent.lentWith [] (length r)) [] r a q
 stops (respondToRead chip reply) b r k w q a = stopped b r _ k (slave-stops RespondToRead b (slaveLent.lentWith reply 0) reply [] a q)
 
+-- ---- a step that is taken
+
+goes : (c : Call) (block bytes : List ℕ) → takes c block bytes ≡ true → (a : ℕ) → Is15 (entryOf c .step block bytes a .next) → ⊥
+goes (init chip input frequency duty) b r t a = init-goes b a t
+goes (transaction chip address list written) b r t a = master-goes transactionEntry b list written r a t
+goes (writeRead chip address written) b r t a = master-goes writeReadEntry b [] written r a t
+goes (write chip address option written) b r t a = master-goes writeEntry b [] written [] a t
+goes (read chip address option) b r t a = master-goes readEntry b [] [] r a t
+goes (initSlave ten address has second general stretching) b r t a = init-slave-goes b a t
+goes (listen chip) b r t a = slave-goes Listen b (slaveLent.lentWith [] 0) [] [] a t
+goes (respondToWrite chip) b r t a = slave-goes RespondToWrite b (slaveLent.lentWith [] (length r)) [] r a t
+goes (respondToRead chip reply) b r t a = slave-goes RespondToRead b (slaveLent.lentWith reply 0) reply [] a t
+
+-- ---- begin of an accepted call
+
+begins : (c : Call) (block bytes : List ℕ) → Reads c bytes → Accepted c block bytes → Begins (entryOf c) (takes c) (nothingToDo c) block bytes
+begins (init chip input frequency duty) block bytes e a =
+    at-nothing (init chip input frequency duty) (Begun (init chip input frequency duty) block) block bytes e
+    (λ a. let p = parts (init chip input frequency duty) block [] a in init-begins chip input frequency duty block (p .size) (p .known) (p .own)) a
+begins (transaction chip address list written) block bytes e a =
+    let p = parts (transaction chip address list written) block bytes a in
+    let c = callOf chip address kind.Transaction in
+    let l = lentWith list written (length bytes) in
+    transfer-begins c l (p .own) block bytes refl (entryOf (transaction chip address list written)) (takes (transaction chip address list written)) (nothingToDo (transaction chip address list written))
+    (begin-left c l (p .own) (ltb 3 chip) block bytes (p .size) (p .known) refl) refl (transaction-starts chip address list written (length bytes) (p .own))
+begins (writeRead chip address written) block bytes e a =
+    let p = parts (writeRead chip address written) block bytes a in
+    let c = callOf chip address kind.WriteRead in
+    let l = lentWith [] written (length bytes) in
+    transfer-begins c l (p .own) block bytes refl (entryOf (writeRead chip address written)) (takes (writeRead chip address written)) false
+    (begin-left c l (p .own) (ltb 3 chip) block bytes (p .size) (p .known) refl) refl (write-read-starts chip address written (length bytes))
+begins (write chip address option written) block bytes e a =
+    at-nothing (write chip address option written) (Begun (write chip address option written) block) block bytes e
+    (λ a.
+    let p = parts (write chip address option written) block [] a in
+    let c = callOf chip address (kind.Write (frameOptionsOf option)) in
+    let l = lentWith [] written 0 in
+    transfer-begins c l (p .own) block [] refl (entryOf (write chip address option written)) (takes (write chip address option written)) (nothingToDo (write chip address option written))
+    (begin-left c l (p .own) (ltb 3 chip || ltb 5 option) block [] (p .size) (p .known) refl) refl
+    (frame-starts chip address written option (ltb-false 5 option (second-false (ltb 3 chip) (ltb 5 option) (p .known))))) a
+begins (read chip address option) block bytes e a =
+    let p = parts (read chip address option) block bytes a in
+    let c = callOf chip address (kind.Read (frameOptionsOf option)) in
+    let l = lentWith [] [] (length bytes) in
+    transfer-begins c l (p .own) block bytes refl (entryOf (read chip address option)) (takes (read chip address option)) false
+    (begin-left c l (p .own) (ltb 3 chip || ltb 5 option) block bytes (p .size) (p .known) refl) refl (read-starts chip address option (length bytes))
+begins (initSlave ten address has second general stretching) block bytes e a =
+    at-nothing (initSlave ten address has second general stretching) (Begun (initSlave ten address has second general stretching) block) block bytes e
+    (λ a. let p = parts (initSlave ten address has second general stretching) block [] a in init-slave-begins ten address has second general stretching block (p .size) (p .known) (p .own)) a
+begins (listen chip) block bytes e a =
+    at-nothing (listen chip) (Begun (listen chip) block) block bytes e
+    (λ a.
+    let p = parts (listen chip) block [] a in
+    response-begins (chipOf chip) Listen (slaveLent.lentWith [] 0) (omega arith) block [] refl (entryOf (listen chip)) (takes (listen chip))
+    (response-left chip Listen (slaveLent.lentWith [] 0) (omega arith) block [] (p .size) (p .known) refl) refl) a
+begins (respondToWrite chip) block bytes e a =
+    let p = parts (respondToWrite chip) block bytes a in
+    let l = slaveLent.lentWith [] (length bytes) in
+    response-begins (chipOf chip) RespondToWrite l (small (length bytes) (p .own)) block bytes refl (entryOf (respondToWrite chip)) (takes (respondToWrite chip))
+    (response-left chip RespondToWrite l (small (length bytes) (p .own)) block bytes (p .size) (p .known) refl) refl
+begins (respondToRead chip reply) block bytes e a =
+    at-nothing (respondToRead chip reply) (Begun (respondToRead chip reply) block) block bytes e
+    (λ a.
+    let p = parts (respondToRead chip reply) block [] a in
+    let l = slaveLent.lentWith reply 0 in
+    response-begins (chipOf chip) RespondToRead l (small (length reply) (p .own)) block [] refl (entryOf (respondToRead chip reply)) (takes (respondToRead chip reply))
+    (response-left chip RespondToRead l (small (length reply) (p .own)) block [] (p .size) (p .known) refl) refl) a
+
+-- ---- what is seen of an accepted call
+
+module _ (c : Call) (block bytes : List ℕ) (k : Reads c bytes) (a : Accepted c block bytes) where
+  seen-shown : (answers : List ℕ) → Records c block bytes answers (shownBy c (length bytes) answers)
+  seen-shown answers =
+      let r = runs c block bytes k a in
+      record {
+        record-is = record-is (entryOf c) block bytes answers (shownBy c (length bytes) answers) (r .makes answers) (r .recorded answers);
+        end-is = end-is (entryOf c) block bytes answers (shownBy c (length bytes) answers) (r .makes answers) (r .recorded answers);
+        read-is = r .makes answers .read;
+      }
+
+  seen-ours : (turns : ℕ) (answers : List ℕ) → length answers < turns → Records c block bytes answers (ours turns c (length bytes) answers)
+  seen-ours turns answers h = subst (λ (s : Shown). Records c block bytes answers s) (accepted-ours c block bytes a turns answers h) (seen-shown answers)
+
+  shown-after : (answers : List ℕ) → shownBy c (length bytes) answers ≡ oursAfter c (length bytes) answers
+  shown-after answers = accepted-ours c block bytes a (suc (length answers)) answers (omega arith)
+
+  of-demand-2 : (answers : List ℕ) → OfDemand2 c block bytes answers
+  of-demand-2 answers =
+      let r = seen-ours (suc (length answers)) answers (omega arith) in
+      let s = oursAfter c (length bytes) answers in
+      record {
+        as-long = ap length (r .record-is) ∙ length-map (s .events) seenOf;
+        struck = ap (struckBy (s .events)) (r .record-is) ∙ struck-same (s .events);
+        unstruck = r;
+      }
+
 -- ---- demands 1 and 2
+
+over : (c : Call) (block bytes : List ℕ) → Reads c bytes → Accepted c block bytes → (answers more : List ℕ) (e : Ending) → endAfter c block bytes answers ≡ some e → Over c block bytes answers more
+over c block bytes k a answers more e q =
+    let r = runs c block bytes k a in
+    let h : shownBy c (length bytes) answers .end ≡ some e = sym (seen-shown c block bytes k a answers .end-is) ∙ q in
+    let same = r .stays answers more e h in
+    record {
+      record-stays = seen-shown c block bytes k a (answers ++ more) .record-is ∙ ap recordIn same ∙ sym (seen-shown c block bytes k a answers .record-is);
+      end-stays = seen-shown c block bytes k a (answers ++ more) .end-is ∙ ap (λ (s : Shown). s .end) same ∙ sym (seen-shown c block bytes k a answers .end-is);
+      left-stays = r .over answers e h;
+    }
 
 pub demand-1 : Demand1
 demand-1 =
     record {
       tells = number-injective;
+      tells-command = tells-command;
+      tells-status = tells-status;
+      tells-count = tells-count;
+      commanded =
+          λ chip block a answers e q.
+          listen-ends (chipOf chip) (slaveLent.lentWith [] 0) (suc (length answers)) answers e (sym (seen-ours (listen chip) block [] refl a (suc (length answers)) answers (omega arith) .end-is) ∙ q);
+      replied =
+          λ chip reply block a answers e q.
+          reply-end (chipOf chip) reply (suc (length answers)) answers e (sym (seen-ours (respondToRead chip reply) block [] refl a (suc (length answers)) answers (omega arith) .end-is) ∙ q);
       refuses = refuses;
+      accepts = begins;
+      goes = goes;
       stops = stops;
-      ends =
-          λ c block bytes k a answers.
-          let r = runs c block bytes k a in
-          subst IsMet (sym (end-is (entryOf c) block bytes answers (shownBy c (length bytes) answers) (r .makes answers) (r .recorded answers))) (r .met answers);
+      ends = λ c block bytes k a answers. subst IsMet (sym (seen-shown c block bytes k a answers .end-is)) (runs c block bytes k a .met answers);
+      still-open = λ c block bytes k a answers q. runs c block bytes k a .still-open answers (sym (seen-shown c block bytes k a answers .end-is) ∙ q);
+      over = over;
     }
+
+makes : (c : Call) (block bytes : List ℕ) → Reads c bytes → Accepted c block bytes → (turns : ℕ) (answers : List ℕ) → length answers < turns
+    → Makes (entryOf c) block bytes answers (ours turns c (length bytes) answers)
+makes c block bytes k a turns answers h = subst (λ (s : Shown). Makes (entryOf c) block bytes answers s) (accepted-ours c block bytes a turns answers h) (runs c block bytes k a .makes answers)
+
+rusts : (c : Call) (block bytes : List ℕ) → Reads c bytes → Accepted c block bytes → (turns : ℕ) (answers : List ℕ) → length answers < turns → RecordsRust c block bytes answers (rust turns c (length bytes) answers)
+rusts c block bytes k a turns answers h =
+    let r = seen-ours c block bytes k a turns answers h in
+    let e = sym (as-the-rust c (length bytes) turns answers) in
+    record {
+      record-is = r .record-is ∙ ap recordIn e;
+      end-is = ap (forgetEnd (endAsTheRust c)) (r .end-is) ∙ ap (λ (s : Shown). s .end) e;
+      read-is = r .read-is ∙ ap (λ (s : Shown). stored (s .arrivals) bytes) e;
+    }
+
+-- runs with joined bytes
+ours-join : (chip address : ℕ) (list written : List ℕ) (room : ℕ) → refusal (callOf chip address kind.Transaction) (lentWith list written room) ≡ none → (turns : ℕ) (answers : List ℕ)
+    → ours turns (transaction chip address list written) room answers ≡ runsShown (masterOurs.ours (chipOf chip)) turns chip address (joined (cut (operationsOf list) written)) answers
+unfolding refusal oursWith
+ours-join chip address list written room q turns answers =
+    let l = lentWith list written room in
+    ap (λ (p : Program). shownOf 0 p answers)
+    (transaction-runs (chipOf chip) (masterOurs.ours (chipOf chip)) address l q (runs-join .ours-passes (chipOf chip) address (address-passed address kind.Transaction l q)) turns (λ f. finish (Failed f)) (λ _. finish done))
+
+rust-joins : (chip address : ℕ) (list written : List ℕ) (room : ℕ) → refusal (callOf chip address kind.Transaction) (lentWith list written room) ≡ none → (turns : ℕ) (answers : List ℕ)
+    → rust turns (transaction chip address list written) room answers ≡ runsShown (theRust (chipOf chip)) turns chip address (joined (cut (operationsOf list) written)) answers
+unfolding refusal rustWith
+rust-joins chip address list written room q turns answers =
+    let l = lentWith list written room in
+    ap (λ (p : Program). shownOf 0 p answers)
+    (transaction-runs (chipOf chip) (theRust (chipOf chip)) address l q (runs-join .rust-passes (chipOf chip) address (address-passed address kind.Transaction l q)) turns (λ f. finish (Failed f)) (λ _. finish done))
+
+joins : (chip address : ℕ) (list written block bytes : List ℕ) → Accepted (transaction chip address list written) block bytes → (turns : ℕ) (answers : List ℕ) → length answers < turns
+    → Records (transaction chip address list written) block bytes answers (runsShown (masterOurs.ours (chipOf chip)) turns chip address (joined (cut (operationsOf list) written)) answers)
+joins chip address list written block bytes a turns answers h =
+    subst (λ (s : Shown). Records (transaction chip address list written) block bytes answers s)
+    (ours-join chip address list written (length bytes) (parts (transaction chip address list written) block bytes a .own) turns answers)
+    (seen-ours (transaction chip address list written) block bytes tt a turns answers h)
+
+-- the words that are written
+obeys : (c : Call) (room : ℕ) → ownRefusal c room ≡ none → (answers : List ℕ) → Obey (wordsOf c) (shownBy c room answers .events)
+obeys (init chip input frequency duty) room q answers = init-obeys chip input frequency duty q answers
+obeys (transaction chip address list written) room q answers = transfer-obeys (callOf chip address kind.Transaction) (lentWith list written room) q answers
+obeys (writeRead chip address written) room q answers = transfer-obeys (callOf chip address kind.WriteRead) (lentWith [] written room) q answers
+obeys (write chip address option written) room q answers = transfer-obeys (callOf chip address (kind.Write (frameOptionsOf option))) (lentWith [] written 0) q answers
+obeys (read chip address option) room q answers = transfer-obeys (callOf chip address (kind.Read (frameOptionsOf option))) (lentWith [] [] room) q answers
+obeys (initSlave ten address has second general stretching) room q answers = init-slave-obeys ten address has second general stretching q answers
+obeys (listen chip) room q answers = obeys-free (shownBy (listen chip) room answers .events)
+obeys (respondToWrite chip) room q answers = obeys-free (shownBy (respondToWrite chip) room answers .events)
+obeys (respondToRead chip reply) room q answers = obeys-free (shownBy (respondToRead chip reply) room answers .events)
+
+words : (c : Call) (block bytes : List ℕ) → Reads c bytes → Accepted c block bytes → (answers : List ℕ) → Keeps (wordsOf c) (struckAfter c block bytes answers)
+words c block bytes k a answers =
+    subst (λ (xs : List StruckSeen). Keeps (wordsOf c) xs) (ap struckIn (shown-after c block bytes k a answers) ∙ sym (of-demand-2 c block bytes k a answers .struck))
+    (struck-keeps (wordsOf c) (shownBy c (length bytes) answers .events) (obeys c (length bytes) (parts c block bytes a .own) answers))
 
 pub demand-2 : Demand2
 demand-2 =
     record {
-      same =
-          λ c block bytes k a turns answers h.
-          subst (λ (s : Shown). Makes (entryOf c) block bytes answers s) (accepted-ours c block bytes a turns answers h) (runs c block bytes k a .makes answers);
+      same = makes;
+      records = seen-ours;
+      enough = λ c block bytes a turns answers h. sym (accepted-ours c block bytes a turns answers h) ∙ accepted-ours c block bytes a (suc (length answers)) answers (omega arith);
       as-the-rust = as-the-rust;
+      rusts = rusts;
       others = others;
       returns = returns;
-      refused =
-          λ c room n e q turns answers h.
-          as-the-rust c room turns answers
-          ∙ ap (forgetting (endAsTheRust c)) (sym (shown-ours c room n turns answers h) ∙ shown-refused c room e q answers)
-          ∙ ap (λ (x : Ending). noMore (some x)) (others c e);
-      joins = runs-join;
+      refused = rust-refused;
+      unadded = unadded;
+      joins = joins;
+      rust-joins = λ chip address list written block bytes a turns answers. rust-joins chip address list written (length bytes) (parts (transaction chip address list written) block bytes a .own) turns answers;
+      joins-with = runs-join;
+      words = words;
     }
 
 -- ---- demand 3
 
-taken-fewer : (i : ℕ) (xs : List ℕ) (turns : ℕ) → length xs < turns → length (take i xs) < turns
-taken-fewer i xs turns q = omega (arith, length-take i xs, q)
-
-module _ (c : Call) (block bytes : List ℕ) (k : Reads c bytes) (a : Accepted c block bytes) where
-  struck-shown : (turns : ℕ) (answers : List ℕ) → length answers < turns → struckAfter turns c block bytes answers ≡ map asSeen (struck (shownBy c (length bytes) answers))
-  struck-shown turns answers h =
-      let r = runs c block bytes k a in
-      ap (λ (s : Shown). struckBy (s .events) (recordAfter c block bytes answers)) (sym (accepted-ours c block bytes a turns answers h))
-      ∙ struck-is (entryOf c) block bytes answers (shownBy c (length bytes) answers) (r .makes answers) (r .recorded answers)
-
-  end-shown : (answers : List ℕ) → endAfter c block bytes answers ≡ shownBy c (length bytes) answers .end
-  end-shown answers = let r = runs c block bytes k a in end-is (entryOf c) block bytes answers (shownBy c (length bytes) answers) (r .makes answers) (r .recorded answers)
-
-  record-shown : (answers : List ℕ) → recordAfter c block bytes answers ≡ map seenOf (shownBy c (length bytes) answers .events)
-  record-shown answers = let r = runs c block bytes k a in record-is (entryOf c) block bytes answers (shownBy c (length bytes) answers) (r .makes answers) (r .recorded answers)
-
-module _ (Alike : Ending → Ending → Type 0) (c₁ c₂ : Call) (b₁ r₁ b₂ r₂ : List ℕ) (k₁ : Reads c₁ r₁) (k₂ : Reads c₂ r₂) (a₁ : Accepted c₁ b₁ r₁) (a₂ : Accepted c₂ b₂ r₂) where
-  seen-alike : (turns : ℕ) (xs ys : List ℕ) → length xs < turns → length ys < turns
-      → ((i : ℕ) → SameStruck Alike (shownBy c₁ (length r₁) (take i xs)) (shownBy c₂ (length r₂) (take i ys))) → SeenAlike Alike turns c₁ c₂ b₁ r₁ b₂ r₂ xs ys
-  seen-alike turns xs ys p q s =
+module _ (c₁ c₂ : Call) (b₁ r₁ b₂ r₂ : List ℕ) (k₁ : Reads c₁ r₁) (k₂ : Reads c₂ r₂) (a₁ : Accepted c₁ b₁ r₁) (a₂ : Accepted c₂ b₂ r₂) where
+  seen-alike : (Alike : Ending → Ending → Type 0) (xs ys : List ℕ)
+      → ((i : ℕ) → SameStruck Alike (shownBy c₁ (length r₁) (take i xs)) (shownBy c₂ (length r₂) (take i ys))) → SeenAlike Alike c₁ c₂ b₁ r₁ b₂ r₂ xs ys
+  seen-alike Alike xs ys s =
       record {
         records =
             λ i.
-            struck-shown c₁ b₁ r₁ k₁ a₁ turns (take i xs) (taken-fewer i xs turns p)
+            of-demand-2 c₁ b₁ r₁ k₁ a₁ (take i xs) .struck
+            ∙ ap struckIn (sym (shown-after c₁ b₁ r₁ k₁ a₁ (take i xs)))
             ∙ ap (map asSeen) (s i .records)
-            ∙ sym (struck-shown c₂ b₂ r₂ k₂ a₂ turns (take i ys) (taken-fewer i ys turns q));
+            ∙ ap struckIn (shown-after c₂ b₂ r₂ k₂ a₂ (take i ys))
+            ∙ sym (of-demand-2 c₂ b₂ r₂ k₂ a₂ (take i ys) .struck);
         ends =
             λ i.
-            subst (λ (x : Option Ending). EndsAlike Alike x (endAfter c₂ b₂ r₂ (take i ys))) (sym (end-shown c₁ b₁ r₁ k₁ a₁ (take i xs)))
-            (subst (λ (y : Option Ending). EndsAlike Alike (shownBy c₁ (length r₁) (take i xs) .end) y) (sym (end-shown c₂ b₂ r₂ k₂ a₂ (take i ys))) (s i .ends));
+            subst (λ (x : Option Ending). EndsAlike Alike x (endAfter c₂ b₂ r₂ (take i ys))) (sym (seen-shown c₁ b₁ r₁ k₁ a₁ (take i xs) .end-is))
+            (subst (λ (y : Option Ending). EndsAlike Alike (shownBy c₁ (length r₁) (take i xs) .end) y) (sym (seen-shown c₂ b₂ r₂ k₂ a₂ (take i ys) .end-is)) (s i .ends));
+        first = λ i. of-demand-2 c₁ b₁ r₁ k₁ a₁ (take i xs);
+        second = λ i. of-demand-2 c₂ b₂ r₂ k₂ a₂ (take i ys);
+      }
+
+  -- the premise, of what the first call's machine shows
+  differ-shown : (xs ys : List ℕ) → DifferAtPayload (recordAfter c₁ b₁ r₁ xs) xs ys → DifferInPayload (shownBy c₁ (length r₁) xs .events) xs ys
+  differ-shown xs ys d = differ-same (shownBy c₁ (length r₁) xs .events) xs ys (subst (λ (rs : List Seen). DifferAtPayload rs xs ys) (seen-shown c₁ b₁ r₁ k₁ a₁ xs .record-is) d)
+
+  -- payloads that agree: the answers are the same
+  same-given : (xs ys : List ℕ) → DifferAtPayload (recordAfter c₁ b₁ r₁ xs) xs ys → payloadIn (recordAfter c₁ b₁ r₁ xs) ≡ payloadIn (recordAfter c₂ b₂ r₂ ys)
+      → ((i : ℕ) → SameStruck Same (shownBy c₁ (length r₁) (take i xs)) (shownBy c₂ (length r₂) (take i ys))) → xs ≡ ys
+  same-given xs ys d e s =
+      let p = seen-shown c₁ b₁ r₁ k₁ a₁ xs .record-is in
+      let q = seen-shown c₂ b₂ r₂ k₂ a₂ ys .record-is in
+      answers-same (shownBy c₁ (length r₁) xs .events) (shownBy c₂ (length r₂) ys .events) xs ys
+      (ap (λ (zs : List ℕ). struck (shownBy c₁ (length r₁) zs)) (sym (take-all most xs (omega (arith, max-left))))
+      ∙ s most .records
+      ∙ ap (λ (zs : List ℕ). struck (shownBy c₂ (length r₂) zs)) (take-all most ys (omega (arith, max-right))))
+      (differ-shown xs ys d)
+      (subst (λ (rs : List Seen). Answered rs xs) p (answered (handedOut (lefts (entryOf c₁) b₁ r₁ xs)) xs))
+      (subst (λ (rs : List Seen). Answered rs ys) q (answered (handedOut (lefts (entryOf c₂) b₂ r₂ ys)) ys))
+      (ap payloadIn (sym p) ∙ e ∙ ap payloadIn q)
+    where
+      most : ℕ
+      most = length xs + length ys
+
+      max-left : length xs ≤ most
+      max-left = omega arith
+
+      max-right : length ys ≤ most
+      max-right = omega arith
+
+  seen-same : (xs ys : List ℕ) → xs ≡ ys → ((answers : List ℕ) → shownBy c₁ (length r₁) answers ≡ shownBy c₂ (length r₂) answers) → SeenSame c₁ c₂ b₁ r₁ b₂ r₂ xs ys
+  seen-same xs ys e s =
+      record {
+        records =
+            λ i.
+            seen-shown c₁ b₁ r₁ k₁ a₁ (take i xs) .record-is
+            ∙ ap recordIn (s (take i xs))
+            ∙ sym (seen-shown c₂ b₂ r₂ k₂ a₂ (take i xs) .record-is)
+            ∙ ap (λ (zs : List ℕ). recordAfter c₂ b₂ r₂ (take i zs)) e;
+        ends =
+            λ i.
+            seen-shown c₁ b₁ r₁ k₁ a₁ (take i xs) .end-is
+            ∙ ap (λ (t : Shown). t .end) (s (take i xs))
+            ∙ sym (seen-shown c₂ b₂ r₂ k₂ a₂ (take i xs) .end-is)
+            ∙ ap (λ (zs : List ℕ). endAfter c₂ b₂ r₂ (take i zs)) e;
       }
 
 -- transfers whose runs agree
@@ -324,43 +568,83 @@ runs-agree (reads {chip} {address} {option} {n}) p q xs ys d i =
     let c = callOf chip address (kind.Read (frameOptionsOf option)) in
     master-is-secret .hidden c (lentWith [] [] n) (lentWith [] [] n) (compared c (lentWith [] [] n) (lentWith [] [] n) p q refl) xs ys d i
 
-whole-agree : {c₁ c₂ : Call} {n m : ℕ} → SameRuns c₁ n c₂ m → ownRefusal c₁ n ≡ none → ownRefusal c₂ m ≡ none → writtenBy c₁ ≡ writtenBy c₂ → (answers : List ℕ) → shownBy c₁ n answers ≡ shownBy c₂ m answers
+concat : List (List ℕ) → List ℕ
+concat [] = []
+concat (x ∷ xs) = x ++ concat xs
+
+-- the written bytes of a transaction are those of its runs
+joined-bytes : (js : List Joined) → bytesJ js ≡ concat (map bytesOfRun js)
+unfolding concat
+joined-bytes [] = refl
+joined-bytes (JW bytes ∷ js) = ap (λ (x : List ℕ). bytes ++ x) (joined-bytes js)
+joined-bytes (JR n ∷ js) = joined-bytes js
+
+run-bytes : (list written : List ℕ) (room : ℕ) → InForm (lentWith list written room) → written ≡ concat (map bytesOfRun (joined (cut (operationsOf list) written)))
+run-bytes list written room f =
+    sym (list-bytes (operationsOf list) written (sym (f .written ∙ written-runs (operationsOf list)))) ∙ joined-bytes (joined (cut (operationsOf list) written))
+
+whole-agree : {c₁ c₂ : Call} {n m : ℕ} → SameRuns c₁ n c₂ m → ownRefusal c₁ n ≡ none → ownRefusal c₂ m ≡ none → writtenRuns c₁ ≡ writtenRuns c₂ → (answers : List ℕ) → shownBy c₁ n answers ≡ shownBy c₂ m answers
 whole-agree (transactions {chip} {address} {list₁} {written₁} {list₂} {written₂} {n} {m} e) p q w answers =
     let c = callOf chip address kind.Transaction in
-    master-is-secret .determined c (lentWith list₁ written₁ n) (lentWith list₂ written₂ m) (compared c (lentWith list₁ written₁ n) (lentWith list₂ written₂ m) p q e) w answers
-whole-agree (writeReads {chip} {address} {written₁} {written₂} {n} e) p q w answers = ap (λ (x : List ℕ). callShown (callOf chip address kind.WriteRead) (lentWith [] x n) answers) w
+    master-is-secret .determined c (lentWith list₁ written₁ n) (lentWith list₂ written₂ m) (compared c (lentWith list₁ written₁ n) (lentWith list₂ written₂ m) p q e)
+    (run-bytes list₁ written₁ n (master-is-ours .covers c (lentWith list₁ written₁ n) p)
+    ∙ ap concat w
+    ∙ sym (run-bytes list₂ written₂ m (master-is-ours .covers c (lentWith list₂ written₂ m) q))) answers
+whole-agree (writeReads {chip} {address} {written₁} {written₂} {n} e) p q w answers =
+    let z : written₁ ≡ written₂ = cc in
+    ap (λ (x : List ℕ). callShown (callOf chip address kind.WriteRead) (lentWith [] x n) answers) z
 whole-agree (writes {chip} {address} {option} {written₁} {written₂} {n} {m} e) p q w answers =
-    ap (λ (x : List ℕ). callShown (callOf chip address (kind.Write (frameOptionsOf option))) (lentWith [] x 0) answers) w
+    let z : written₁ ≡ written₂ = cc in
+    ap (λ (x : List ℕ). callShown (callOf chip address (kind.Write (frameOptionsOf option))) (lentWith [] x 0) answers) z
 whole-agree (reads {chip} {address} {option} {n}) p q w answers = refl
+
+module _ (chip : ℕ) (b₁ r₁ b₂ r₂ : List ℕ) (e : length r₁ ≡ length r₂) (a₁ : Accepted (respondToWrite chip) b₁ r₁) (a₂ : Accepted (respondToWrite chip) b₂ r₂) where
+  receives-struck : (xs ys : List ℕ) → DifferAtPayload (recordAfter (respondToWrite chip) b₁ r₁ xs) xs ys
+      → (i : ℕ) → SameStruck Same (shownBy (respondToWrite chip) (length r₁) (take i xs)) (shownBy (respondToWrite chip) (length r₂) (take i ys))
+  receives-struck xs ys d =
+      slave-is-secret .received (chipOf chip) (slaveLent.lentWith [] (length r₁)) (slaveLent.lentWith [] (length r₂)) (small (length r₁) (parts (respondToWrite chip) b₁ r₁ a₁ .own)) e xs ys
+      (differ-shown (respondToWrite chip) (respondToWrite chip) b₁ r₁ b₂ r₂ tt tt a₁ a₂ xs ys d)
+
+module _ (c₁ c₂ : Call) (b₁ r₁ b₂ r₂ : List ℕ) (s : SameRuns c₁ (length r₁) c₂ (length r₂)) (k₁ : Reads c₁ r₁) (k₂ : Reads c₂ r₂) (a₁ : Accepted c₁ b₁ r₁) (a₂ : Accepted c₂ b₂ r₂) where
+  transfers-struck : (xs ys : List ℕ) → DifferAtPayload (recordAfter c₁ b₁ r₁ xs) xs ys → (i : ℕ) → SameStruck Same (shownBy c₁ (length r₁) (take i xs)) (shownBy c₂ (length r₂) (take i ys))
+  transfers-struck xs ys d = runs-agree s (parts c₁ b₁ r₁ a₁ .own) (parts c₂ b₂ r₂ a₂ .own) xs ys (differ-shown c₁ c₂ b₁ r₁ b₂ r₂ k₁ k₂ a₁ a₂ xs ys d)
+
+module _ (chip : ℕ) (x y b₁ b₂ : List ℕ) (a₁ : Accepted (respondToRead chip x) b₁ []) (a₂ : Accepted (respondToRead chip y) b₂ []) where
+  replies-struck : (answers : List ℕ) (i : ℕ) → SameStruck (RepliesEnd (length x) (length y)) (shownBy (respondToRead chip x) 0 (take i answers)) (shownBy (respondToRead chip y) 0 (take i answers))
+  replies-struck answers i =
+      record {
+        records =
+            slave-is-secret .replied (chipOf chip) (slaveLent.lentWith x 0) (slaveLent.lentWith y 0) (small (length x) (parts (respondToRead chip x) b₁ [] a₁ .own))
+            (small (length y) (parts (respondToRead chip y) b₂ [] a₂ .own)) answers i .records;
+        ends =
+            subst (λ (s : Shown). EndsAlike (RepliesEnd (length x) (length y)) (s .end) (shownBy (respondToRead chip y) 0 (take i answers) .end)) (sym (shown-after (respondToRead chip x) b₁ [] refl a₁ (take i answers)))
+            (subst (λ (s : Shown). EndsAlike (RepliesEnd (length x) (length y)) (oursAfter (respondToRead chip x) 0 (take i answers) .end) (s .end)) (sym (shown-after (respondToRead chip y) b₂ [] refl a₂ (take i answers)))
+            (reply-ends (chipOf chip) x y (suc (length (take i answers))) (take i answers)));
+      }
 
 pub demand-3 : Demand3
 demand-3 =
     record {
-      transfers =
-          λ c₁ c₂ b₁ r₁ b₂ r₂ s k₁ k₂ a₁ a₂ turns xs ys p q d.
-          seen-alike Same c₁ c₂ b₁ r₁ b₂ r₂ k₁ k₂ a₁ a₂ turns xs ys p q
-          (runs-agree s (parts c₁ b₁ r₁ a₁ .own) (parts c₂ b₂ r₂ a₂ .own) xs ys (subst (λ (t : Shown). DifferInPayload (t .events) xs ys) (sym (accepted-ours c₁ b₁ r₁ a₁ turns xs p)) d));
+      transfers = λ c₁ c₂ b₁ r₁ b₂ r₂ s k₁ k₂ a₁ a₂ xs ys d. seen-alike c₁ c₂ b₁ r₁ b₂ r₂ k₁ k₂ a₁ a₂ Same xs ys (transfers-struck c₁ c₂ b₁ r₁ b₂ r₂ s k₁ k₂ a₁ a₂ xs ys d);
       transfers-whole =
-          λ c₁ c₂ b₁ r₁ b₂ r₂ s k₁ k₂ a₁ a₂ w answers.
-          record-shown c₁ b₁ r₁ k₁ a₁ answers
-          ∙ ap (λ (t : Shown). map seenOf (t .events)) (whole-agree s (parts c₁ b₁ r₁ a₁ .own) (parts c₂ b₂ r₂ a₂ .own) w answers)
-          ∙ sym (record-shown c₂ b₂ r₂ k₂ a₂ answers);
+          λ c₁ c₂ b₁ r₁ b₂ r₂ s k₁ k₂ a₁ a₂ xs ys d p.
+          seen-same c₁ c₂ b₁ r₁ b₂ r₂ k₁ k₂ a₁ a₂ xs ys
+          (same-given c₁ c₂ b₁ r₁ b₂ r₂ k₁ k₂ a₁ a₂ xs ys d (p .answered) (transfers-struck c₁ c₂ b₁ r₁ b₂ r₂ s k₁ k₂ a₁ a₂ xs ys d))
+          (whole-agree s (parts c₁ b₁ r₁ a₁ .own) (parts c₂ b₂ r₂ a₂ .own) (p .written));
       receives =
-          λ chip b₁ r₁ b₂ r₂ e a₁ a₂ turns xs ys p q d.
-          seen-alike Same (respondToWrite chip) (respondToWrite chip) b₁ r₁ b₂ r₂ tt tt a₁ a₂ turns xs ys p q
-          (slave-is-secret .received (chipOf chip) (slaveLent.lentWith [] (length r₁)) (slaveLent.lentWith [] (length r₂)) (small (length r₁) (parts (respondToWrite chip) b₁ r₁ a₁ .own)) e xs ys
-          (subst (λ (t : Shown). DifferInPayload (t .events) xs ys) (sym (accepted-ours (respondToWrite chip) b₁ r₁ a₁ turns xs p)) d));
+          λ chip b₁ r₁ b₂ r₂ e a₁ a₂ xs ys d.
+          seen-alike (respondToWrite chip) (respondToWrite chip) b₁ r₁ b₂ r₂ tt tt a₁ a₂ Same xs ys (receives-struck chip b₁ r₁ b₂ r₂ e a₁ a₂ xs ys d);
       receives-whole =
-          λ chip b₁ r₁ b₂ r₂ e a₁ a₂ answers.
-          record-shown (respondToWrite chip) b₁ r₁ tt a₁ answers
-          ∙ ap (λ (t : Shown). map seenOf (t .events)) (slave-is-secret .determined (chipOf chip) (slaveLent.lentWith [] (length r₁)) (slaveLent.lentWith [] (length r₂)) e answers)
-          ∙ sym (record-shown (respondToWrite chip) b₂ r₂ tt a₂ answers);
+          λ chip b₁ r₁ b₂ r₂ e a₁ a₂ xs ys d p.
+          seen-same (respondToWrite chip) (respondToWrite chip) b₁ r₁ b₂ r₂ tt tt a₁ a₂ xs ys
+          (same-given (respondToWrite chip) (respondToWrite chip) b₁ r₁ b₂ r₂ tt tt a₁ a₂ xs ys d (p .answered) (receives-struck chip b₁ r₁ b₂ r₂ e a₁ a₂ xs ys d))
+          (slave-is-secret .determined (chipOf chip) (slaveLent.lentWith [] (length r₁)) (slaveLent.lentWith [] (length r₂)) e);
       replies =
-          λ chip x y b₁ b₂ a₁ a₂ turns answers p.
-          seen-alike Any (respondToRead chip x) (respondToRead chip y) b₁ [] b₂ [] refl refl a₁ a₂ turns answers answers p p
-          (slave-is-secret .replied (chipOf chip) (slaveLent.lentWith x 0) (slaveLent.lentWith y 0) (small (length x) (parts (respondToRead chip x) b₁ [] a₁ .own)) (small (length y) (parts (respondToRead chip y) b₂ [] a₂ .own)) answers);
+          λ chip x y b₁ b₂ a₁ a₂ answers.
+          seen-alike (respondToRead chip x) (respondToRead chip y) b₁ [] b₂ [] refl refl a₁ a₂ (RepliesEnd (length x) (length y)) answers answers
+          (replies-struck chip x y b₁ b₂ a₁ a₂ answers);
       replies-of-one-length =
-          λ chip x y b₁ b₂ e a₁ a₂ turns answers p.
-          seen-alike Same (respondToRead chip x) (respondToRead chip y) b₁ [] b₂ [] refl refl a₁ a₂ turns answers answers p p
+          λ chip x y b₁ b₂ e a₁ a₂ answers.
+          seen-alike (respondToRead chip x) (respondToRead chip y) b₁ [] b₂ [] refl refl a₁ a₂ Same answers answers
           (slave-is-secret .replied-alike (chipOf chip) (slaveLent.lentWith x 0) (slaveLent.lentWith y 0) (small (length x) (parts (respondToRead chip x) b₁ [] a₁ .own)) e answers);
     }

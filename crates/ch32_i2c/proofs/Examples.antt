@@ -1,15 +1,20 @@
 -- The demands speak of something: calls that are accepted, and what comes of them, by computation.
 -- Assumes nothing.
-use mathlib.Core.Path.{refl}
+use mathlib.Core.Path.{_≡_, refl, ap, sym, subst, _∙_}
+use mathlib.Core.Bool.{true}
 use mathlib.Core.List.{List, [], _∷_}
-use Prim.Native.Nat.{ℕ, _+_}
+use mathlib.Core.Option.{some}
+use Prim.Native.Nat.{ℕ, suc}
 use native.Mathlib.Omega.{arith}
-use lib.ListN.{replicate, length}
+use lib.ListN.{length, replicate}
 use Rattle.registers.specs.Word.{hasBit, putBit, fieldOf, putField}
 use Rattle.registers.specs.Flags.{errorFlags, clearError}
 use Rattle.registers.specs.Addresses.{addressWord}
 use Rattle.access.specs.Program.{checkTimeout, late}
-use Rattle.access.specs.Record.{DifferInPayload, Same}
+use Rattle.access.specs.declared.ending.Error.the-variants.{InvalidAddress}
+use Rattle.access.specs.declared.next.Next.{Next}
+use Rattle.access.specs.Endings.{done, returned, failed}
+use Rattle.access.specs.Record.{noMore, Same}
 use Rattle.operations.specs.Operations.{operationsOf, shaped}
 use Rattle.operations.specs.Runs.{runsOf, runsFrom}
 use Rattle.operations.specs.Search.{faultFrom}
@@ -18,12 +23,15 @@ use Rattle.errors.specs.Check.{check-errors}
 use Rattle.master.specs.Calls.{refusal, oursWith}
 use Rattle.master.specs.Rust as rust
 use Rattle.master.specs.Ours as ours
+use Rattle.master.specs.Joined.{joined, joinW}
 use Rattle.slave.specs.Calls.{oursSlave}
 use Rattle.slave.specs.Rust as slave
-use Rattle.slave.specs.Claims.{Any}
-use Rattle.ch32_i2c.specs.Demands.{Call, transaction, respondToWrite, respondToRead, Accepted, SameRuns, transactions, SeenAlike}
+use Rattle.slave.specs.Init.{configFault}
+use Rattle.timing.specs.Rust.{timing}
+use Rattle.ch32_i2c.specs.Fed.{Seen, endIn, recordIn, DifferAtPayload, payloadIn}
+use Rattle.ch32_i2c.specs.Demands.{Call, transaction, listen, respondToWrite, respondToRead, Accepted, Over, Commanded, SameRuns, transactions, RepliesEnd, SeenAlike, SeenSame}
 use Rattle.ch32_i2c.specs.Demands as demands
-use Rattle.ch32_i2c.proofs.Demands.{demand-3}
+use Rattle.ch32_i2c.proofs.Demands.{demand-1, demand-2, demand-3}
 
 -- two blocks, whatever they held before
 abbrev zeros : List ℕ
@@ -57,12 +65,14 @@ same-runs = transactions refl
 abbrev sending : List ℕ
 sending = 0 ∷ 0 ∷ 0 ∷ 0 ∷ 0 ∷ 1 ∷ 0 ∷ 1 ∷ 0 ∷ 2 ∷ 0 ∷ 0x80 ∷ 0 ∷ 4 ∷ 0x80 ∷ 0 ∷ 4 ∷ []
 
-sending-alike : DifferInPayload (demands.ours 18 first 2 sending .events) sending sending
+sending-alike : DifferAtPayload (recordIn (demands.ours 18 first 2 sending)) sending sending
 unfolding oursWith operationsOf rust.blocking-transaction rust.validate-address rust.validate-operations rust.validate-from rust.transact rust.write-group rust.write-bytes rust.start-and-address rust.launch-start rust.wait-stop-finished rust.wait-flag ours.check-and-clear-error-flags check-errors errorOf rust.send-byte rust.abort-transfer rust.finish-transfer rust.generate-stop rust.checked-add hasBit putBit fieldOf putField errorFlags clearError addressWord checkTimeout late
 sending-alike = (refl, (refl, (refl, (refl, (refl, (refl, (refl, (refl, (refl, (refl, (refl, (refl, (refl, (refl, (refl, (refl, (refl, tt)))))))))))))))))
 
-transfers-alike : SeenAlike Same 18 first second zeros (0 ∷ 0 ∷ []) ones (9 ∷ 9 ∷ []) sending sending
-transfers-alike = demand-3 .transfers first second zeros (0 ∷ 0 ∷ []) ones (9 ∷ 9 ∷ []) same-runs tt tt first-accepted second-accepted 18 sending sending (omega arith) (omega arith) sending-alike
+transfers-alike : SeenAlike Same first second zeros (0 ∷ 0 ∷ []) ones (9 ∷ 9 ∷ []) sending sending
+transfers-alike =
+    demand-3 .transfers first second zeros (0 ∷ 0 ∷ []) ones (9 ∷ 9 ∷ []) same-runs tt tt first-accepted second-accepted sending sending
+    (subst (λ (rs : List Seen). DifferAtPayload rs sending sending) (sym (demand-2 .records first zeros (0 ∷ 0 ∷ []) tt first-accepted 18 sending (omega arith) .record-is)) sending-alike)
 
 -- ---- two receives of one length that get other bytes: RXNE twice, the second byte past the buffer, then ADDR
 
@@ -72,14 +82,106 @@ xs = 0x40 ∷ 0x11 ∷ 0x40 ∷ 0x22 ∷ 2 ∷ []
 abbrev ys : List ℕ
 ys = 0x40 ∷ 0x99 ∷ 0x40 ∷ 0 ∷ 2 ∷ []
 
-received-differ : DifferInPayload (demands.ours 6 (respondToWrite 0) 1 xs .events) xs ys
+received-differ : DifferAtPayload (recordIn (demands.ours 6 (respondToWrite 0) 1 xs)) xs ys
 unfolding oursSlave slave.blocking-respond-to-write slave.clear-stopf hasBit errorFlags
 received-differ = (refl, (tt, (refl, (tt, (refl, tt)))))
 
-receives-alike : SeenAlike Same 6 (respondToWrite 0) (respondToWrite 0) zeros (0 ∷ []) ones (5 ∷ []) xs ys
-receives-alike = demand-3 .receives 0 zeros (0 ∷ []) ones (5 ∷ []) refl refl refl 6 xs ys (omega arith) (omega arith) received-differ
+receives-alike : SeenAlike Same (respondToWrite 0) (respondToWrite 0) zeros (0 ∷ []) ones (5 ∷ []) xs ys
+receives-alike =
+    demand-3 .receives 0 zeros (0 ∷ []) ones (5 ∷ []) refl refl refl xs ys
+    (subst (λ (rs : List Seen). DifferAtPayload rs xs ys) (sym (demand-2 .records (respondToWrite 0) zeros (0 ∷ []) tt refl 6 xs (omega arith) .record-is)) received-differ)
 
 -- ---- two replies of other bytes and lengths, and any answers
 
-replies-alike : (answers : List ℕ) → SeenAlike Any (length answers + 1) (respondToRead 3 (1 ∷ 2 ∷ [])) (respondToRead 3 (7 ∷ [])) zeros [] ones [] answers answers
-replies-alike answers = demand-3 .replies 3 (1 ∷ 2 ∷ []) (7 ∷ []) zeros ones refl refl (length answers + 1) answers (omega arith)
+replies-alike : (answers : List ℕ) → SeenAlike (RepliesEnd 2 1) (respondToRead 3 (1 ∷ 2 ∷ [])) (respondToRead 3 (7 ∷ [])) zeros [] ones [] answers answers
+replies-alike answers = demand-3 .replies 3 (1 ∷ 2 ∷ []) (7 ∷ []) zeros ones refl refl answers
+
+-- ---- payloads that agree: a transaction divided otherwise, of the same bytes; a receive that gets the same bytes
+
+abbrev third : Call
+third = transaction 0 0x50 (0 ∷ 2 ∷ 0 ∷ 1 ∷ 1 ∷ 0 ∷ 1 ∷ 1 ∷ 0 ∷ []) (1 ∷ 2 ∷ [])
+
+third-accepted : Accepted third ones (9 ∷ 9 ∷ [])
+unfolding refusal shaped faultFrom operationsOf runsOf runsFrom
+third-accepted = refl
+
+first-runs-third : SameRuns first 2 third 2
+unfolding operationsOf runsOf runsFrom
+first-runs-third = transactions refl
+
+same-written : demands.writtenRuns first ≡ demands.writtenRuns third
+unfolding operationsOf joined joinW
+same-written = refl
+
+-- neither has read a byte yet
+nothing-read : payloadIn (recordIn (demands.ours 18 first 2 sending)) ≡ payloadIn (recordIn (demands.ours 18 third 2 sending))
+unfolding oursWith operationsOf rust.blocking-transaction rust.validate-address rust.validate-operations rust.validate-from rust.transact rust.write-group rust.write-bytes rust.start-and-address rust.launch-start rust.wait-stop-finished rust.wait-flag ours.check-and-clear-error-flags check-errors errorOf rust.send-byte rust.abort-transfer rust.finish-transfer rust.generate-stop rust.checked-add hasBit putBit fieldOf putField errorFlags clearError addressWord checkTimeout late
+nothing-read = refl
+
+transfers-same : SeenSame first third zeros (0 ∷ 0 ∷ []) ones (9 ∷ 9 ∷ []) sending sending
+transfers-same =
+    let p = demand-2 .records first zeros (0 ∷ 0 ∷ []) tt first-accepted 18 sending (omega arith) .record-is in
+    let q = demand-2 .records third ones (9 ∷ 9 ∷ []) tt third-accepted 18 sending (omega arith) .record-is in
+    demand-3 .transfers-whole first third zeros (0 ∷ 0 ∷ []) ones (9 ∷ 9 ∷ []) first-runs-third tt tt first-accepted third-accepted sending sending
+    (subst (λ (rs : List Seen). DifferAtPayload rs sending sending) (sym p) sending-alike)
+    (record { written = same-written; answered = ap payloadIn p ∙ nothing-read ∙ sym (ap payloadIn q) })
+
+received-same : DifferAtPayload (recordIn (demands.ours 6 (respondToWrite 0) 1 xs)) xs xs
+unfolding oursSlave slave.blocking-respond-to-write slave.clear-stopf hasBit errorFlags
+received-same = (refl, (tt, (refl, (tt, (refl, tt)))))
+
+receives-same : SeenSame (respondToWrite 0) (respondToWrite 0) zeros (0 ∷ []) ones (5 ∷ []) xs xs
+receives-same =
+    let p = demand-2 .records (respondToWrite 0) zeros (0 ∷ []) tt refl 6 xs (omega arith) .record-is in
+    let q = demand-2 .records (respondToWrite 0) ones (5 ∷ []) tt refl 6 xs (omega arith) .record-is in
+    demand-3 .receives-whole 0 zeros (0 ∷ []) ones (5 ∷ []) refl refl refl xs xs (subst (λ (rs : List Seen). DifferAtPayload rs xs xs) (sym p) received-same)
+    (record { written = refl; answered = ap payloadIn (p ∙ sym q) })
+
+-- ---- a call that is over at once, and one that goes on
+
+abbrev nothing : Call
+nothing = transaction 0 0x50 [] []
+
+nothing-accepted : Accepted nothing zeros []
+unfolding refusal shaped faultFrom operationsOf runsOf runsFrom
+nothing-accepted = refl
+
+nothing-ends : demands.endAfter nothing zeros [] [] ≡ some done
+nothing-ends = ap (λ (n : Next). endIn (n ∷ [])) (demand-1 .accepts nothing zeros [] tt nothing-accepted .done refl)
+
+stays-over : (more : List ℕ) → Over nothing zeros [] [] more
+stays-over more = demand-1 .over nothing zeros [] tt nothing-accepted [] more done nothing-ends
+
+goes-on : demands.takes first (demands.entryOf first .begin zeros (0 ∷ 0 ∷ []) .block) (demands.entryOf first .begin zeros (0 ∷ 0 ∷ []) .read) ≡ true
+goes-on = demand-1 .accepts first zeros (0 ∷ 0 ∷ []) tt first-accepted .taken
+
+-- ---- a refusal of the Rust's, whatever holds behind it: a frame of any bytes, 70,000 too, to address 0x80
+
+frame-to-80 : (bytes : List ℕ) → demands.ownRefusal (demands.write 0 0x80 0 bytes) 0 ≡ some InvalidAddress
+unfolding refusal
+frame-to-80 bytes = refl
+
+rust-refuses : (bytes answers : List ℕ) → demands.rust (suc (length answers)) (demands.write 0 0x80 0 bytes) 0 answers ≡ noMore (some (failed InvalidAddress))
+rust-refuses bytes answers = demand-2 .refused (demands.write 0 0x80 0 bytes) 0 InvalidAddress (frame-to-80 bytes) refl (suc (length answers)) answers (omega arith)
+
+-- ---- a listen that is addressed by a general call
+
+abbrev addressed : List ℕ
+addressed = 0 ∷ 0 ∷ 0 ∷ 0 ∷ 0 ∷ 0 ∷ 0 ∷ 0 ∷ 2 ∷ 0x10 ∷ []
+
+listen-ends : demands.ours 11 (listen 0) 0 addressed .end ≡ some (returned 0)
+unfolding oursSlave slave.blocking-listen slave.clear-slave-stale-flags slave.clear-stopf slave.decode-slave-address hasBit putBit putField errorFlags
+listen-ends = refl
+
+listen-commanded : Commanded (returned 0)
+listen-commanded = demand-1 .commanded 0 zeros refl addressed (returned 0) (demand-2 .records (listen 0) zeros [] refl refl 11 addressed (omega arith) .end-is ∙ listen-ends)
+
+-- ---- settings that are accepted
+
+init-accepted : Accepted (demands.init 0 36_000_000 400_000 1) zeros []
+unfolding timing
+init-accepted = refl
+
+init-slave-accepted : Accepted (demands.initSlave 1 0x3ff 0 0 0 0) zeros []
+unfolding configFault
+init-slave-accepted = refl

@@ -33,6 +33,9 @@ use Rattle.images.proofs.MasterImageLaws.{master-found}
 use Rattle.images.proofs.InitSlaveImageLaws.{init-slave-found}
 use Rattle.images.proofs.SlaveImageLaws.{slave-found}
 use Rattle.calls.specs.Init.{initHeld}
+use Rattle.calls.specs.Init as initCall
+use Rattle.calls.specs.InitSlave as initSlaveCall
+use Rattle.slave.specs.Init.{configFault}
 use Rattle.calls.specs.Transfer.{masterHeld}
 use Rattle.calls.specs.InitSlave.{initSlaveHeld}
 use Rattle.calls.specs.Response.{slaveHeld}
@@ -44,13 +47,15 @@ held find nothing f = ap (λ (n : ℕ). cond (eqb n blockSize) (find (fieldsOf (
 asked : {F : Type 0} (find : Fields → F) (nothing : F) (f : Fields) (entry : ℕ) → f .entry ≡ entry → cond (eqb (f .entry) entry) (find f) nothing ≡ find f
 asked find nothing f entry e = ap (λ (b : Bool). cond b (find f) nothing) (eq-eqb (f .entry) entry e)
 
-pub init-held : (s : init.State) → initHeld (bytesOf (initFields s)) ≡ initFound.At s
+-- where the divider is in range
+pub init-held : (s : init.State) → initCall.inRange (s .timing) ≡ true → initHeld (bytesOf (initFields s)) ≡ initFound.At s
 unfolding initHeld
-init-held s = held initIn initFound.Nothing (initFields s) ∙ init-found s
+init-held s g = held (λ (f : Fields). initCall.fitting (initIn f)) initFound.Nothing (initFields s) ∙ ap initCall.fitting (init-found s) ∙ rw g
 
-pub init-slave-held : (s : InitState) → initSlaveHeld (bytesOf (initSlaveFields s)) ≡ initSlaveFound.At s
+-- where begin would take the configuration
+pub init-slave-held : (s : InitState) → configFault (s .config) ≡ false → initSlaveHeld (bytesOf (initSlaveFields s)) ≡ initSlaveFound.At s
 unfolding initSlaveHeld
-init-slave-held s = held initSlaveIn initSlaveFound.Nothing (initSlaveFields s) ∙ init-slave-found s
+init-slave-held s g = held (λ (f : Fields). initSlaveCall.fitting (initSlaveIn f)) initSlaveFound.Nothing (initSlaveFields s) ∙ ap initSlaveCall.fitting (init-slave-found s) ∙ rw g
 
 master-entry : (s : master.State) → masterFields s .entry ≡ masterImage.kindEntry (s .call .kind)
 unfolding masterFields

@@ -1,6 +1,7 @@
 -- Begin and step of `init` and of `init_slave` make what their machines show.
 -- Assumes nothing.
 use mathlib.Core.Path.{_≡_, refl, ap, sym, _∙_}
+use mathlib.Core.Bool.{Bool, true, false, cond}
 use mathlib.Core.List.{List, []}
 use mathlib.Core.Option.{some}
 use Prim.Native.Nat.{ℕ}
@@ -8,8 +9,12 @@ use lib.ListN.{length}
 use Rattle.access.specs.declared.ending.Error.the-variants.{InvalidState}
 use Rattle.access.specs.Machine.{filled, kept}
 use Rattle.block.specs.Bytes32.{bytesOf}
+use Rattle.timing.specs.declared.init.Stage.{Stage}
+use Rattle.timing.specs.declared.init.Stage.the-variants as stages
 use Rattle.timing.specs.declared.init.State.{State}
 use Rattle.timing.specs.Machine as timing
+use Rattle.slave.specs.declared.init.InitStage.{InitStage}
+use Rattle.slave.specs.declared.init.InitStage.the-variants as initStage
 use Rattle.slave.specs.declared.init.InitState.{InitState}
 use Rattle.slave.specs.Init as slave
 use Rattle.images.specs.InitImage.{initFields}
@@ -24,28 +29,51 @@ use Rattle.ch32_i2c.specs.Fed.{Entry}
 use Rattle.ch32_i2c.proofs.HeldLaws.{init-held, init-slave-held}
 use Rattle.ch32_i2c.proofs.Carried.{Carries, nothing-read, step-taken, step-ended}
 
--- every state fits where nothing is lent
-abbrev pub Any : {S : Type 0} → S → Type 0
-Any s = Unit {0}
-
--- a call that is lent nothing, and whose states are all held by their blocks
-module _ (c : OnBlock) (held : (s : c .machine .State) → c .held (c .image s) ≡ some s) (e : Entry) (step : (b r : List ℕ) (a : ℕ) → e .step b r a ≡ stepLeft c [] b [] a) where
-  same : c .machine .State → c .machine .State
+-- a call that is lent nothing, and whose states are held by their blocks if they fit
+module _ (c : OnBlock) (Good : c .machine .State → Type 0) (stays : (s : c .machine .State) (a : ℕ) → Good s → Good (c .machine .move s a)) (held : (s : c .machine .State) → Good s → c .held (c .image s) ≡ some s) (e : Entry)
+    (step : (b r : List ℕ) (a : ℕ) → e .step b r a ≡ stepLeft c [] b [] a) where
+  abbrev same : c .machine .State → c .machine .State
   same s = s
 
-  lends-nothing : Carries (c .machine) [] 0 e (c .image) Any
-  unfolding same
+  nothing-of : (r : List ℕ) → length r ≡ 0 → [] ≡ r
+  nothing-of r z = sym (nothing-read r z)
+
+  lends-nothing : Carries (c .machine) [] 0 e (c .image) Good
   lends-nothing =
       record {
-        stays = λ s a g. tt;
-        taken = λ s r a g z k. step (c .image s) r a ∙ step-taken {m = c .machine} c same Any (λ s. refl) (λ s a. refl) (λ s _. held s) [] s [] a tt k ∙ ap (λ (x : List ℕ). left (filled [] (c .machine .need (c .machine .move s a))) (c .image (c .machine .move s a)) (kept (c .machine .need s) a x)) (sym-nothing r z);
-        ended = λ s r a g z k. step (c .image s) r a ∙ step-ended {m = c .machine} c same Any (λ s. refl) (λ s a. refl) (λ s _. held s) [] s [] a tt k ∙ ap (λ (x : List ℕ). refusedWith InvalidState (c .image s) x) (sym-nothing r z);
+        stays = stays;
+        taken = λ s r a g z k. step (c .image s) r a ∙ step-taken {m = c .machine} c same Good (λ s. refl) (λ s a. refl) held [] s [] a g k ∙ ap (λ (x : List ℕ). left (filled [] (c .machine .need (c .machine .move s a))) (c .image (c .machine .move s a)) (kept (c .machine .need s) a x)) (nothing-of r z);
+        ended = λ s r a g z k. step (c .image s) r a ∙ step-ended {m = c .machine} c same Good (λ s. refl) (λ s a. refl) held [] s [] a g k ∙ ap (λ (x : List ℕ). refusedWith InvalidState (c .image s) x) (nothing-of r z);
       }
-    where
-      sym-nothing : (r : List ℕ) → length r ≡ 0 → [] ≡ r
-      sym-nothing r z = sym (nothing-read r z)
 
 -- ---- init
+
+stage-settings : (st : Stage) (s : State) (a : ℕ) → timing.advanceAt st s a .timing ≡ s .timing
+stage-settings stages.DisableRead s a = refl
+stage-settings stages.DisableWrite s a = refl
+stage-settings stages.ResetRead s a = refl
+stage-settings stages.ResetWrite s a = refl
+stage-settings stages.ReleaseRead s a = refl
+stage-settings stages.ReleaseWrite s a = refl
+stage-settings stages.FrequencyRead s a = refl
+stage-settings stages.FrequencyWrite s a = go (s .chip .«i2c_v3»)
+  where
+    go : (b : Bool) → cond b (timing.to stages.RiseWrite s) (timing.to stages.ClockWrite s) .timing ≡ s .timing
+    go true = refl
+    go false = refl
+stage-settings stages.RiseWrite s a = refl
+stage-settings stages.ClockWrite s a = refl
+stage-settings stages.EnableRead s a = refl
+stage-settings stages.EnableWrite s a = refl
+stage-settings stages.Ended s a = refl
+
+pub settings-stay : (s : State) (a : ℕ) → timing.advance s a .timing ≡ s .timing
+unfolding timing.advance
+settings-stay s a = stage-settings (s .stage) s a
+
+-- a state whose divider is in range
+abbrev pub InitFit : State → Type 0
+InitFit s = initCall.inRange (s .timing) ≡ true
 
 abbrev pub initImage : State → List ℕ
 initImage s = bytesOf (initFields s)
@@ -53,11 +81,31 @@ initImage s = bytesOf (initFields s)
 abbrev pub initEntry : ℕ → ℕ → ℕ → ℕ → Entry
 initEntry chip input frequency duty = record { begin = λ b r. init.initBegin b chip input frequency duty; step = λ b r a. init.initStep b a }
 
-pub init-carries : (chip input frequency duty : ℕ) → Carries timing.initMachine [] 0 (initEntry chip input frequency duty) initImage Any
+pub init-carries : (chip input frequency duty : ℕ) → Carries timing.initMachine [] 0 (initEntry chip input frequency duty) initImage InitFit
 unfolding init.initStep
-init-carries chip input frequency duty = lends-nothing initCall.initOn (λ s. ap initCall.stateIn (init-held s)) (initEntry chip input frequency duty) (λ b r a. refl)
+init-carries chip input frequency duty =
+    lends-nothing initCall.initOn InitFit (λ s a g. ap initCall.inRange (settings-stay s a) ∙ g) (λ s g. ap initCall.stateIn (init-held s g)) (initEntry chip input frequency duty) (λ b r a. refl)
 
 -- ---- init_slave
+
+stage-config : (st : InitStage) (s : InitState) (x : ℕ) → slave.advanceAt st s x .config ≡ s .config
+stage-config initStage.DisableRead s x = refl
+stage-config initStage.DisableWrite s x = refl
+stage-config initStage.BufferRead s x = refl
+stage-config initStage.BufferWrite s x = refl
+stage-config initStage.Own s x = refl
+stage-config initStage.Second s x = refl
+stage-config initStage.EnableRead s x = refl
+stage-config initStage.EnableWrite s x = refl
+stage-config initStage.Ended s x = refl
+
+pub config-stays : (s : InitState) (x : ℕ) → slave.advance s x .config ≡ s .config
+unfolding slave.advance
+config-stays s x = stage-config (s .stage) s x
+
+-- a state whose configuration begin would take
+abbrev pub InitSlaveFit : InitState → Type 0
+InitSlaveFit s = slave.configFault (s .config) ≡ false
 
 abbrev pub initSlaveImage : InitState → List ℕ
 initSlaveImage s = bytesOf (initSlaveFields s)
@@ -66,6 +114,7 @@ abbrev pub initSlaveEntry : ℕ → ℕ → ℕ → ℕ → ℕ → ℕ → Entr
 initSlaveEntry ten address has second general stretching =
     record { begin = λ b r. initSlave.initSlaveBegin b ten address has second general stretching; step = λ b r a. initSlave.initSlaveStep b a }
 
-pub init-slave-carries : (ten address has second general stretching : ℕ) → Carries slave.initMachine [] 0 (initSlaveEntry ten address has second general stretching) initSlaveImage Any
+pub init-slave-carries : (ten address has second general stretching : ℕ) → Carries slave.initMachine [] 0 (initSlaveEntry ten address has second general stretching) initSlaveImage InitSlaveFit
 unfolding initSlave.initSlaveStep
-init-slave-carries ten address has second general stretching = lends-nothing initSlaveCall.initSlaveOn (λ s. ap initSlaveCall.stateIn (init-slave-held s)) (initSlaveEntry ten address has second general stretching) (λ b r a. refl)
+init-slave-carries ten address has second general stretching =
+    lends-nothing initSlaveCall.initSlaveOn InitSlaveFit (λ s a g. ap slave.configFault (config-stays s a) ∙ g) (λ s g. ap initSlaveCall.stateIn (init-slave-held s g)) (initSlaveEntry ten address has second general stretching) (λ b r a. refl)

@@ -1,28 +1,24 @@
 -- The record that is built from what is handed out is layer 1's.
 -- Assumes nothing.
 use mathlib.Core.Path.{_≡_, refl, ap, _∙_}
-use mathlib.Core.Bool.{Bool, true, false, cond}
 use mathlib.Core.List.{List, [], _∷_, map}
 use mathlib.Core.Option.{Option, none, some}
 use Prim.Native.Nat.{ℕ, suc}
 use lib.ListN.{length}
-use Rattle.registers.specs.declared.register.Register.the-variants.{Datar}
+use Rattle.registers.specs.declared.register.Register.{Register}
+use Rattle.registers.specs.declared.register.Register.the-variants.{Ctlr1, Ctlr2, Oaddr1, Oaddr2, Datar, Star1, Star2, Ckcfgr, Rtr}
 use Rattle.access.specs.declared.need.Need.{Need}
 use Rattle.access.specs.declared.need.Need.the-variants as need
 use Rattle.access.specs.declared.next.Next.{Next}
 use Rattle.access.specs.declared.next.Next.the-variants as next
 use Rattle.access.specs.Program.{Access, read, write, send, clock}
-use Rattle.access.specs.Record.{Event, Shown, Struck, strikeAt, strike, struck, isData}
-use Rattle.access.specs.Record as access
+use Rattle.access.specs.Record.{Event, Shown, strikeAt, strike}
 use Rattle.access.specs.Machine.{Machine, filled, seenOwed, seenAnswered, shownFrom}
-use Rattle.ch32_i2c.specs.Fed.{Entry, lefts, handedOut, nextOf, nextsOf, inTurn, Makes, Seen, recordOf, endIn, StruckSeen, whole, sent, received, strikeAs, struckBy}
-
-abbrev pub seenOf : Event → Seen
-seenOf e = record { next = nextOf (e .what); answer = e .answer }
+use Rattle.ch32_i2c.specs.Fed.{Entry, lefts, handedOut, nextsOf, inTurn, Makes, Seen, recordOf, endIn, seenOf, recordIn, StruckSeen, strikeAs, struckBy, asSeen}
 
 -- what is shown after these answers is what the record built from it says
 pub record Recorded (s : Shown) (answers : List ℕ) : Type 0 where
-  pub events : recordOf (inTurn (suc (length answers)) (nextsOf s)) answers ≡ map seenOf (s .events)
+  pub events : recordOf (inTurn (suc (length answers)) (nextsOf s)) answers ≡ recordIn s
   pub end : endIn (inTurn (suc (length answers)) (nextsOf s)) ≡ s .end
 
 module _ (bytes : List ℕ) where
@@ -55,33 +51,32 @@ recorded m bytes s (a ∷ answers) = answered-recorded bytes a (shownFrom m byte
 
 -- ---- striking out
 
-abbrev pub asSeen : Struck → StruckSeen
-asSeen (access.whole e) = whole (seenOf e)
-asSeen access.sent = sent
-asSeen access.received = received
-
-strike-read : (b : Bool) (e : Event) → cond b received (whole (seenOf e)) ≡ asSeen (cond b access.received (access.whole e))
-strike-read true e = refl
-strike-read false e = refl
+strike-read : (r : Register) (a : Option ℕ) → strikeAs (read r) (seenOf (record { what = read r; answer = a })) ≡ asSeen (strikeAt (read r) a)
+strike-read Ctlr1 a = refl
+strike-read Ctlr2 a = refl
+strike-read Oaddr1 a = refl
+strike-read Oaddr2 a = refl
+strike-read Datar a = refl
+strike-read Star1 a = refl
+strike-read Star2 a = refl
+strike-read Ckcfgr a = refl
+strike-read Rtr a = refl
 
 strike-same : (x : Access) (a : Option ℕ) → strikeAs x (seenOf (record { what = x; answer = a })) ≡ asSeen (strikeAt x a)
-strike-same (read r) a = strike-read (isData r) (record { what = read r; answer = a })
+strike-same (read r) a = strike-read r a
 strike-same (write r v) a = refl
 strike-same (send b) a = refl
 strike-same clock a = refl
 
-struck-same : (es : List Event) → struckBy es (map seenOf es) ≡ map asSeen (map strike es)
+pub struck-same : (es : List Event) → struckBy es (map seenOf es) ≡ map asSeen (map strike es)
 struck-same [] = refl
 struck-same (e ∷ es) = ap (λ (x : StruckSeen). x ∷ struckBy es (map seenOf es)) (strike-same (e .what) (e .answer)) ∙ ap (λ (xs : List StruckSeen). asSeen (strike e) ∷ xs) (struck-same es)
 
 -- ---- a call that makes what is shown
 
 module _ (c : Entry) (block bytes answers : List ℕ) (s : Shown) (m : Makes c block bytes answers s) (r : Recorded s answers) where
-  pub record-is : recordOf (handedOut (lefts c block bytes answers)) answers ≡ map seenOf (s .events)
+  pub record-is : recordOf (handedOut (lefts c block bytes answers)) answers ≡ recordIn s
   record-is = ap (λ (ns : List Next). recordOf ns answers) (m .accesses) ∙ r .events
 
   pub end-is : endIn (handedOut (lefts c block bytes answers)) ≡ s .end
   end-is = ap endIn (m .accesses) ∙ r .end
-
-  pub struck-is : struckBy (s .events) (recordOf (handedOut (lefts c block bytes answers)) answers) ≡ map asSeen (struck s)
-  struck-is = ap (struckBy (s .events)) record-is ∙ struck-same (s .events)

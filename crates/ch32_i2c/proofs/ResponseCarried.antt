@@ -1,13 +1,14 @@
 -- Begin and step of an accepted slave call make what its machine shows.
 -- Assumes nothing.
 use mathlib.Core.Path.{_≡_, refl, ap, _∙_}
-use mathlib.Core.Bool.{true}
+use mathlib.Core.Bool.{Bool, true, not, _&&_}
 use mathlib.Core.List.{List}
 use mathlib.Core.Option.{some}
 use Prim.Native.Nat.{ℕ}
 use lib.ListN.{length}
 use borrow.Author.Tests.{le-leb}
 use Rattle.registers.specs.declared.chip.Chip.{Chip}
+use Rattle.access.specs.Machine.{isEnd}
 use Rattle.access.proofs.Choice.{both-true}
 use Rattle.block.specs.Bytes32.{bytesOf}
 use Rattle.slave.specs.declared.state.Kind.{Kind}
@@ -16,7 +17,7 @@ use Rattle.slave.specs.Machine.{slave, owed, advance}
 use Rattle.slave.specs.Fits.{fits}
 use Rattle.slave.specs.Calls.{SlaveLent, sizeOf, settingOf, Accepted}
 use Rattle.slave.specs.Calls as calls
-use Rattle.slave.specs.Steps.{stateAt, fitsLent, needOf}
+use Rattle.slave.specs.Steps.{stateAt, fitsLent, isOpen, needOf}
 use Rattle.slave.proofs.FitsKept.{states-fit}
 use Rattle.slave_driver.specs.Lent.{lentWith}
 use Rattle.images.specs.SlaveImage.{slaveFields, kindEntry}
@@ -60,6 +61,10 @@ module _ (chip : Chip) (x : Kind) (l : SlaveLent) where
     fits-lent : (m : Move) → Fit m → fitsLent (stateAt (settingOf chip x l) m) (sizeOf x l) ≡ true
     unfolding fitsLent
     fits-lent m g = both-true (le-leb (sizeOf x l) 65535 accepted) g
+
+    pub open-at : (m : Move) → Fit m → (b : Bool) → isEnd (owed (settingOf chip x l) m) ≡ b → isOpen (stateAt (settingOf chip x l) m) (sizeOf x l) ≡ not b
+    unfolding owed
+    open-at m g b e = ap (λ (t : Bool). t && not (isEnd (owed (settingOf chip x l) m))) (fits-lent m g) ∙ ap not e
 
     held : (m : Move) → Fit m → onBlock .held (imageOf m) ≡ some (stateAt (settingOf chip x l) m)
     held m g = ap (fitting (sizeOf x l)) (slave-held (stateAt (settingOf chip x l) m)) ∙ rw (fits-lent m g)

@@ -1,11 +1,12 @@
 -- Begin and step of an accepted transfer make what its machine shows.
 -- Assumes nothing.
 use mathlib.Core.Path.{_≡_, refl, ap, _∙_}
-use mathlib.Core.Bool.{Bool, true}
+use mathlib.Core.Bool.{Bool, true, not, _&&_}
 use mathlib.Core.List.{List}
 use mathlib.Core.Option.{some}
 use Prim.Native.Nat.{ℕ}
 use lib.ListN.{length}
+use Rattle.access.specs.Machine.{isEnd}
 use Rattle.access.proofs.Choice.{both-true}
 use Rattle.block.specs.Bytes32.{bytesOf}
 use Rattle.master.specs.declared.call.Call.{Call}
@@ -13,7 +14,7 @@ use Rattle.master.specs.declared.state.Move.{Move}
 use Rattle.master.specs.Machine.{master, owed, advance}
 use Rattle.master.specs.Fits.{fits}
 use Rattle.master.specs.Calls.{Lent, lentWith, shapeOf, refusal, Accepted}
-use Rattle.master.specs.Steps.{stateAt, isNone, fitsLent, needOf}
+use Rattle.master.specs.Steps.{stateAt, isNone, fitsLent, isOpen, needOf}
 use Rattle.master.proofs.AcceptedFits.{states-fit}
 use Rattle.images.specs.MasterImage.{masterFields, kindEntry}
 use Rattle.calls.specs.OnBlock.{OnBlock}
@@ -58,6 +59,10 @@ module _ (c : Call) (l : Lent) where
     fits-lent : (m : Move) → Fit m → fitsLent (stateAt c m) (l .list) (length (l .written)) (l .room) ≡ true
     unfolding fitsLent refusal
     fits-lent m g = both-true (ap isNone accepted) g
+
+    pub open-at : (m : Move) → Fit m → (b : Bool) → isEnd (owed (shapeOf c l) m) ≡ b → isOpen (stateAt c m) l ≡ not b
+    unfolding owed
+    open-at m g b e = ap (λ (t : Bool). t && not (isEnd (owed (shapeOf c l) m))) (fits-lent m g) ∙ ap not e
 
     held : (m : Move) → Fit m → onBlock .held (imageOf m) ≡ some (stateAt c m)
     held m g = ap (fitting (l .list) (length (l .written)) (l .room)) (master-held (stateAt c m)) ∙ rw (fits-lent m g)

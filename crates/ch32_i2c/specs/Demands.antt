@@ -1,24 +1,50 @@
 -- The three demands, said of what C programs call: of blocks, lent bytes and what the eighteen functions hand out. Each exported function's
--- contract says that it returns the number of what its definition hands out, and leaves the definition's bytes (specs/Left.antt).
+-- contract says that it returns the number of what its definition hands out, and leaves the definition's bytes (`Leaves`, specs/Left.antt).
+--
+-- Which definition each contract cites (tests/tie.py, a part of `make test`, compares this with the contracts in src/ and with `entryOf`):
+--
+--   ch32_i2c_init_begin               initBegin block chip input frequency duty
+--   ch32_i2c_init_step                initStep block answer
+--   ch32_i2c_transaction_begin        transactionBegin block chip address list written read
+--   ch32_i2c_transaction_step         transactionStep block list written read answer
+--   ch32_i2c_write_read_begin         writeReadBegin block chip address written read
+--   ch32_i2c_write_read_step          writeReadStep block written read answer
+--   ch32_i2c_write_begin              writeBegin block chip address option written
+--   ch32_i2c_write_step               writeStep block written answer
+--   ch32_i2c_read_begin               readBegin block chip address option read
+--   ch32_i2c_read_step                readStep block read answer
+--   ch32_i2c_init_slave_begin         initSlaveBegin block ten_bit address has_second second general_call clock_stretching
+--   ch32_i2c_init_slave_step          initSlaveStep block answer
+--   ch32_i2c_listen_begin             listenBegin block chip
+--   ch32_i2c_listen_step              listenStep block answer
+--   ch32_i2c_respond_to_write_begin   respondToWriteBegin block chip buffer
+--   ch32_i2c_respond_to_write_step    respondToWriteStep block buffer answer
+--   ch32_i2c_respond_to_read_begin    respondToReadBegin block chip reply
+--   ch32_i2c_respond_to_read_step     respondToReadStep block reply answer
 use mathlib.Core.Path.{_≡_}
-use mathlib.Core.Bool.{Bool, true, false, not, _||_}
-use mathlib.Core.List.{List, []}
+use mathlib.Core.Bool.{Bool, true, false, not, _&&_, _||_}
+use mathlib.Core.List.{List, [], _∷_, _++_, map}
 use mathlib.Core.Option.{Option, none, some}
-use Prim.Native.Nat.{ℕ, _<_, _≤_}
+use Prim.Native.Nat.{ℕ, suc, _<_, _≤_}
 use lib.Dec.{eqb, ltb}
 use lib.ListN.{length, take}
 use Rattle.registers.specs.declared.chip.Chip.{Chip}
 use Rattle.access.specs.declared.ending.Ending.{Ending}
 use Rattle.access.specs.declared.ending.Ending.the-variants.{Done, Failed}
+use Rattle.access.specs.declared.ending.Failure.{Failure}
 use Rattle.access.specs.declared.ending.Error.{Error}
 use Rattle.access.specs.declared.ending.Error.the-variants.{InvalidState, InvalidArgument}
 use Rattle.access.specs.declared.next.Next.{Next}
-use Rattle.access.specs.Endings.{returned, failed, isMet}
+use Rattle.access.specs.declared.next.Next.the-variants as next
+use Rattle.access.specs.Endings.{errorNumber, done, returned, failed, isMet}
 use Rattle.access.specs.Machine.{isEnd}
 use Rattle.access.specs.Numbers.{nextNumber, HoldsWords}
-use Rattle.access.specs.Record.{Shown, noMore, DifferInPayload, Same, EndsAlike}
-use Rattle.alike.specs.Like.{forgetting}
+use Rattle.access.specs.Program as program
+use Rattle.access.specs.Record.{Shown, noMore, shownOf, Same, EndsAlike}
+use Rattle.alike.specs.Like.{forgetEnd, forgetting}
 use Rattle.errors.specs.AsTheRust.{asTheRust}
+use Rattle.operations.specs.Operations.{operationsOf}
+use Rattle.operations.specs.Runs.{isEmpty}
 use Rattle.block.specs.Bytes32.{blockSize, Bytes}
 use Rattle.timing.specs.declared.settings.Timed.{Timed}
 use Rattle.timing.specs.declared.settings.Timed.the-variants as timed
@@ -28,15 +54,22 @@ use Rattle.timing.specs.Machine as initMachine
 use Rattle.master.specs.declared.call.Call as transfer
 use Rattle.master.specs.declared.call.Kind.the-variants as kind
 use Rattle.master.specs.Steps as master
-use Rattle.master.specs.Calls.{Lent, lentWith, refuse, refusal, rustWith, oursWith, spansBy, NoAddedCause}
+use Rattle.master.specs.Rust.{Parts, theRust}
+use Rattle.master.specs.Ours as parts
+use Rattle.master.specs.Joined.{Joined, JW, JR, joined, runs-program}
+use Rattle.master.specs.Calls.{Lent, lentWith, cut, refuse, refusal, rustWith, oursWith, spansBy, NoAddedCause}
 use Rattle.master.specs.Claims.{RunsJoin}
+use Rattle.slave.specs.declared.config.SlaveAddress.{SlaveAddress}
+use Rattle.slave.specs.declared.config.SlaveAddress.the-variants.{SevenBit, TenBit}
+use Rattle.slave.specs.declared.command.SlaveCommand.{SlaveCommand}
 use Rattle.slave.specs.declared.state.Kind as response
 use Rattle.slave.specs.declared.state.Kind.the-variants.{Listen, RespondToWrite, RespondToRead}
 use Rattle.slave.specs.Init.{initRefusal}
 use Rattle.slave.specs.Init as initSlaveMachine
 use Rattle.slave.specs.Calls.{SlaveLent, sizeOf, sizeRefusal, rustInit, rustSlave, oursSlave}
 use Rattle.slave.specs.Steps as slave
-use Rattle.slave.specs.Claims.{Any}
+use Rattle.slave.specs.Rust.{send-status}
+use Rattle.slave.specs.Numbers.{commandNumber, statusNumber}
 use Rattle.slave_driver.specs.Lent as slaveLent
 use Rattle.images.specs.declared.init_image.InitFound.{InitFound}
 use Rattle.images.specs.declared.init_image.InitFound.the-variants as initFound
@@ -48,8 +81,9 @@ use Rattle.images.specs.declared.slave_image.SlaveFound.{SlaveFound}
 use Rattle.images.specs.declared.slave_image.SlaveFound.the-variants as slaveFound
 use Rattle.images.specs.Numbers.{chipOf, transactionEntry, writeReadEntry, writeEntry, readEntry, listenEntry, respondToWriteEntry, respondToReadEntry}
 use Rattle.images.specs.MasterImage.{frameOptionsOf}
-use Rattle.ch32_i2c.specs.Left.{refusedWith}
-use Rattle.ch32_i2c.specs.Fed.{Entry, lefts, handedOut, Makes, Seen, StruckSeen, recordOf, endIn, struckBy}
+use Rattle.ch32_i2c.specs.Left.{Left, refusedWith}
+use Rattle.ch32_i2c.specs.Fed.{Entry, lefts, lastFrom, handedOut, stored, Makes, Begins, Seen, recordOf, endIn, recordIn, StruckSeen, struckBy, struckIn, DifferAtPayload, payloadIn}
+use Rattle.ch32_i2c.specs.Manual.{Rule, Keeps, free, addressing, owning, clocking}
 use Rattle.calls.specs.Init.{initHeld}
 use Rattle.calls.specs.Transfer.{masterHeld}
 use Rattle.calls.specs.InitSlave.{initSlaveHeld}
@@ -171,6 +205,10 @@ endAsTheRust (listen chip) e = asTheRust (chipOf chip) false e
 endAsTheRust (respondToWrite chip) e = asTheRust (chipOf chip) false e
 endAsTheRust (respondToRead chip reply) e = asTheRust (chipOf chip) false e
 
+-- the refusals that the Rust gives too: 6 and 9
+abbrev pub theRusts : Error → Bool
+theRusts e = eqb (errorNumber e) 6 || eqb (errorNumber e) 9
+
 -- none of the call's own causes that the port adds to the Rust's: 8 at its size, 10 to 14, and 16 for a list
 abbrev pub NoneAdded : Call → ℕ → Type 0
 NoneAdded (init chip input frequency duty) room = ownRefusal (init chip input frequency duty) room ≡ none
@@ -182,6 +220,38 @@ NoneAdded (initSlave ten address has second general stretching) room = Unit {0}
 NoneAdded (listen chip) room = Unit {0}
 NoneAdded (respondToWrite chip) room = room ≤ 65535
 NoneAdded (respondToRead chip reply) room = length reply ≤ 65535
+
+-- our text with turns enough for these answers; more make no difference to an accepted call (`enough` of demand 2)
+abbrev pub oursAfter : Call → ℕ → List ℕ → Shown
+oursAfter c room answers = ours (suc (length answers)) c room answers
+
+-- ---- what is seen of a call
+
+-- document 01's record after begin and a step with each of these answers, its end, and what it leaves
+abbrev pub recordAfter : Call → List ℕ → List ℕ → List ℕ → List Seen
+recordAfter c block bytes answers = recordOf (handedOut (lefts (entryOf c) block bytes answers)) answers
+
+abbrev pub endAfter : Call → List ℕ → List ℕ → List ℕ → Option Ending
+endAfter c block bytes answers = endIn (handedOut (lefts (entryOf c) block bytes answers))
+
+abbrev pub leftAfter : Call → List ℕ → List ℕ → List ℕ → Left
+leftAfter c block bytes answers = lastFrom (entryOf c) (entryOf c .begin block bytes) answers
+
+-- the record with the payload struck out, by layer 1's accesses
+abbrev pub struckAfter : Call → List ℕ → List ℕ → List ℕ → List StruckSeen
+struckAfter c block bytes answers = struckBy (oursAfter c (length bytes) answers .events) (recordAfter c block bytes answers)
+
+-- what is seen of a call is a text's: the record, the owed access and the answers included; the end; the bytes read
+pub record Records (c : Call) (block bytes answers : List ℕ) (s : Shown) : Type 0 where
+  pub record-is : recordAfter c block bytes answers ≡ recordIn s
+  pub end-is : endAfter c block bytes answers ≡ s .end
+  pub read-is : leftAfter c block bytes answers .read ≡ stored (s .arrivals) bytes
+
+-- the same of the Rust's text, whose end is ours with what it lacks forgotten
+pub record RecordsRust (c : Call) (block bytes answers : List ℕ) (s : Shown) : Type 0 where
+  pub record-is : recordAfter c block bytes answers ≡ recordIn s
+  pub end-is : forgetEnd (endAsTheRust c) (endAfter c block bytes answers) ≡ s .end
+  pub read-is : leftAfter c block bytes answers .read ≡ stored (s .arrivals) bytes
 
 -- ---- demand 1: one next step, and bad calls refused
 
@@ -213,57 +283,146 @@ takes (listen chip) block bytes = takesResponse (slaveHeld listenEntry block) (s
 takes (respondToWrite chip) block bytes = takesResponse (slaveHeld respondToWriteEntry block) (slaveLent.lentWith [] (length bytes))
 takes (respondToRead chip reply) block bytes = takesResponse (slaveHeld respondToReadEntry block) (slaveLent.lentWith reply 0)
 
+-- accepted calls that have nothing to do: a transaction of no operations, and write frames 3 and 5 of no bytes, in which the Rust asks for
+-- neither START nor STOP
+abbrev pub nothingToDo : Call → Bool
+nothingToDo (init chip input frequency duty) = false
+nothingToDo (transaction chip address list written) = isEmpty list
+nothingToDo (writeRead chip address written) = false
+nothingToDo (write chip address option written) = isEmpty written && (eqb option 3 || eqb option 5)
+nothingToDo (read chip address option) = false
+nothingToDo (initSlave ten address has second general stretching) = false
+nothingToDo (listen chip) = false
+nothingToDo (respondToWrite chip) = false
+nothingToDo (respondToRead chip reply) = false
+
+-- behind the end: record, end and all lent bytes stay, and a step answers 15
+pub record Over (c : Call) (block bytes answers more : List ℕ) : Type 0 where
+  pub record-stays : recordAfter c block bytes (answers ++ more) ≡ recordAfter c block bytes answers
+  pub end-stays : endAfter c block bytes (answers ++ more) ≡ endAfter c block bytes answers
+  pub left-stays : (a : ℕ) → leftAfter c block bytes (answers ++ (a ∷ [])) ≡ refusedWith InvalidState (leftAfter c block bytes answers .block) (leftAfter c block bytes answers .read)
+
 -- an end that is none of the refusals: 0, or an error that the hardware gave, 1 to 6
 abbrev pub IsMet : Option Ending → Type 0
 IsMet none = Unit {0}
 IsMet (some (Done o)) = Unit {0}
 IsMet (some (Failed f)) = isMet (f .error) ≡ true
 
+-- a slave's address in its seven or ten bits
+abbrev pub InBits : SlaveAddress → Type 0
+InBits (SevenBit a) = a < 128
+InBits (TenBit a) = a < 1024
+
+-- what a listen and a reply can be done with: a command whose address is in its bits; the status of a number of bytes sent
+pub data Commanded : Ending → Type 0 where
+  with-command : (c : SlaveCommand) → InBits (c .address) → Commanded (returned (commandNumber c))
+  without-command : (f : Failure) → Commanded (Failed f)
+
+pub data Replied (size : ℕ) : Ending → Type 0 where
+  with-status : (sent : ℕ) → Replied size (returned (statusNumber (send-status size sent)))
+  without-status : (f : Failure) → Replied size (Failed f)
+
+-- "A call handed in, with any address, list, buffers and register answers, has after each answer exactly one next access or one end."
+-- "A bad call is refused by number before any access, with every lent byte unchanged."
 pub record Demand1 : Type 0 where
+  -- begin of a call without a cause hands out an access and leaves a block that a step takes; where there is nothing to do it is done, and leaves
+  -- an ended one
+  pub accepts : (c : Call) (block bytes : List ℕ) → Reads c bytes → Accepted c block bytes → Begins (entryOf c) (takes c) (nothingToDo c) block bytes
+  -- after each answer there is an access, or the end with 0 or 1 to 6: a call that was accepted is refused at no step before its end
+  pub ends : (c : Call) (block bytes : List ℕ) → Reads c bytes → Accepted c block bytes → (answers : List ℕ) → IsMet (endAfter c block bytes answers)
+  -- while there is no end, a step takes the block and the bytes that were left
+  pub still-open : (c : Call) (block bytes : List ℕ) → Reads c bytes → Accepted c block bytes → (answers : List ℕ) → endAfter c block bytes answers ≡ none
+      → takes c (leftAfter c block bytes answers .block) (leftAfter c block bytes answers .read) ≡ true
+  -- one end: a step after it answers 15; record and end stay, and so does every lent byte
+  pub over : (c : Call) (block bytes : List ℕ) → Reads c bytes → Accepted c block bytes → (answers more : List ℕ) (e : Ending) → endAfter c block bytes answers ≡ some e → Over c block bytes answers more
   -- a returned number is that of exactly one access or end (every exported contract says that what is handed out holds 16-bit words)
   pub tells : (m n : Next) → HoldsWords m → HoldsWords n → nextNumber m ≡ nextNumber n → m ≡ n
-  -- begin refuses with the first cause, and then every lent byte is as before
+  -- and so is the value of a slave call that is done: commands are told apart by kind, by seven or ten bits and by address, statuses of a reply
+  -- and counts by their numbers; and a listen and a reply end with no others
+  pub tells-command : (c d : SlaveCommand) → InBits (c .address) → InBits (d .address) → commandNumber c ≡ commandNumber d → c ≡ d
+  pub tells-status : (size₁ sent₁ size₂ sent₂ : ℕ) → statusNumber (send-status size₁ sent₁) ≡ statusNumber (send-status size₂ sent₂) → send-status size₁ sent₁ ≡ send-status size₂ sent₂
+  pub tells-count : (m n : ℕ) → nextNumber (next.End (returned m)) ≡ nextNumber (next.End (returned n)) → m ≡ n
+  pub commanded : (chip : ℕ) (block : List ℕ) → Accepted (listen chip) block [] → (answers : List ℕ) (e : Ending) → endAfter (listen chip) block [] answers ≡ some e → Commanded e
+  pub replied : (chip : ℕ) (reply block : List ℕ) → Accepted (respondToRead chip reply) block [] → (answers : List ℕ) (e : Ending) → endAfter (respondToRead chip reply) block [] answers ≡ some e → Replied (length reply) e
+  -- a bad call: begin refuses with the first cause, and then every lent byte is as before
   pub refuses : (c : Call) (block bytes : List ℕ) → Reads c bytes → (e : Error) → refusalOf c (length block) (length bytes) ≡ some e → entryOf c .begin block bytes ≡ refusedWith e block bytes
-  -- a step on any other block, or lent what does not fit, is refused with 15, and every lent byte is as before
+  -- a bad step, on a block that is not taken: it is refused with 15, and every lent byte is as before; no other step answers 15
   pub stops : (c : Call) (block bytes : List ℕ) → Reads c bytes → Bytes block → takes c block bytes ≡ false → (a : ℕ) → entryOf c .step block bytes a ≡ refusedWith InvalidState block bytes
-  -- an accepted call ends with 0 or 1 to 6 alone, so it is refused at no step before its end
-  pub ends : (c : Call) (block bytes : List ℕ) → Reads c bytes → Accepted c block bytes → (answers : List ℕ) → IsMet (endIn (handedOut (lefts (entryOf c) block bytes answers)))
+  pub goes : (c : Call) (block bytes : List ℕ) → takes c block bytes ≡ true → (a : ℕ) → (entryOf c .step block bytes a .next ≡ next.End (failed InvalidState)) → ⊥
 
 -- ---- demand 2: the Rust's accesses
 
+-- the runs of a transaction one after the other, each with its bytes joined
+abbrev pub runsShown : Parts → ℕ → ℕ → ℕ → List Joined → List ℕ → Shown
+runsShown p turns chip address runs answers = shownOf 0 (program.callOf (runs-program (chipOf chip) p address runs) (λ _. done) turns) answers
+
+-- the words that a call may write
+abbrev pub wordsOf : Call → Rule
+wordsOf (init chip input frequency duty) = clocking (chipOf chip) input frequency (dutyOf duty)
+wordsOf (transaction chip address list written) = addressing address
+wordsOf (writeRead chip address written) = addressing address
+wordsOf (write chip address option written) = addressing address
+wordsOf (read chip address option) = addressing address
+wordsOf (initSlave ten address has second general stretching) = owning ten address has second
+wordsOf (listen chip) = free
+wordsOf (respondToWrite chip) = free
+wordsOf (respondToRead chip reply) = free
+
+-- "The CH32V manual fixes bits, dividers and address words, embedded-hal's rules fix how neighbouring operations join, and the Rust fixes the
+-- rest: same call and same answers, same accesses in order, same end, same bytes read."
 pub record Demand2 : Type 0 where
-  -- an accepted call makes the accesses and the end of our text, and reads the same bytes, for every list of answers
+  -- the manual (bits are named in crate registers alone): each word that an accepted call writes, payload apart, keeps the rule for its register
+  pub words : (c : Call) (block bytes : List ℕ) → Reads c bytes → Accepted c block bytes → (answers : List ℕ) → Keeps (wordsOf c) (struckAfter c block bytes answers)
+  -- embedded-hal: an accepted transaction makes what its runs make, each with its bytes joined; so does the Rust; and so does the text with any
+  -- other error check and address phase
+  pub joins : (chip address : ℕ) (list written block bytes : List ℕ) → Accepted (transaction chip address list written) block bytes → (turns : ℕ) (answers : List ℕ) → length answers < turns
+      → Records (transaction chip address list written) block bytes answers (runsShown (parts.ours (chipOf chip)) turns chip address (joined (cut (operationsOf list) written)) answers)
+  pub rust-joins : (chip address : ℕ) (list written block bytes : List ℕ) → Accepted (transaction chip address list written) block bytes → (turns : ℕ) (answers : List ℕ)
+      → rust turns (transaction chip address list written) (length bytes) answers ≡ runsShown (theRust (chipOf chip)) turns chip address (joined (cut (operationsOf list) written)) answers
+  pub joins-with : RunsJoin
+  -- the rest: an accepted call hands out the accesses and the end of our text one by one, and reads the same bytes, for every list of answers
   pub same : (c : Call) (block bytes : List ℕ) → Reads c bytes → Accepted c block bytes → (turns : ℕ) (answers : List ℕ) → length answers < turns
       → Makes (entryOf c) block bytes answers (ours turns c (length bytes) answers)
-  -- for every list of answers the Rust's accesses and bytes are those of our text, and its end is ours with what it lacks forgotten
+  -- so its record after any list of answers IS our text's, and so are its end and the bytes read. More turns than answers make no difference
+  pub records : (c : Call) (block bytes : List ℕ) → Reads c bytes → Accepted c block bytes → (turns : ℕ) (answers : List ℕ) → length answers < turns
+      → Records c block bytes answers (ours turns c (length bytes) answers)
+  pub enough : (c : Call) (block bytes : List ℕ) → Accepted c block bytes → (turns : ℕ) (answers : List ℕ) → length answers < turns → ours turns c (length bytes) answers ≡ oursAfter c (length bytes) answers
+  -- and the Rust's: its accesses and bytes are those of our text, and its end is ours with what it lacks forgotten
   pub as-the-rust : (c : Call) (room turns : ℕ) (answers : List ℕ) → rust turns c room answers ≡ forgetting (endAsTheRust c) (ours turns c room answers)
+  pub rusts : (c : Call) (block bytes : List ℕ) → Reads c bytes → Accepted c block bytes → (turns : ℕ) (answers : List ℕ) → length answers < turns
+      → RecordsRust c block bytes answers (rust turns c (length bytes) answers)
   -- nothing is forgotten of an end that no error check decided
   pub others : (c : Call) (e : Error) → endAsTheRust c (failed e) ≡ failed e
   pub returns : (c : Call) (v : ℕ) → endAsTheRust c (returned v) ≡ returned v
-  -- a call that is refused without an added cause is refused by the Rust with the same error, before any access
-  pub refused : (c : Call) (room : ℕ) → NoneAdded c room → (e : Error) → ownRefusal c room ≡ some e → (turns : ℕ) (answers : List ℕ) → length answers < turns
+  -- a call whose first cause is 6 or 9 is refused by the Rust with the same error, before any access; without an added cause there is no other
+  pub refused : (c : Call) (room : ℕ) (e : Error) → ownRefusal c room ≡ some e → theRusts e ≡ true → (turns : ℕ) (answers : List ℕ) → length answers < turns
       → rust turns c room answers ≡ noMore (some (failed e))
-  -- embedded-hal's joining
-  pub joins : RunsJoin
+  pub unadded : (c : Call) (room : ℕ) (e : Error) → NoneAdded c room → ownRefusal c room ≡ some e → theRusts e ≡ true
 
 -- ---- demand 3: no payload in the record
 
--- document 01's record of a call, and its end
-abbrev pub recordAfter : Call → List ℕ → List ℕ → List ℕ → List Seen
-recordAfter c block bytes answers = recordOf (handedOut (lefts (entryOf c) block bytes answers)) answers
+-- "steps refused after the end included": a list of answers may go on behind the end (`over` of demand 1)
 
-abbrev pub endAfter : Call → List ℕ → List ℕ → List ℕ → Option Ending
-endAfter c block bytes answers = endIn (handedOut (lefts (entryOf c) block bytes answers))
-
--- the record with the payload struck out, by layer 1's accesses
-abbrev pub struckAfter : ℕ → Call → List ℕ → List ℕ → List ℕ → List StruckSeen
-struckAfter turns c block bytes answers = struckBy (ours turns c (length bytes) answers .events) (recordAfter c block bytes answers)
+-- record, struck and unstruck, and end are those of demand 2. Both records are equally long, so that no access could hide behind the end of
+-- layer 1's
+pub record OfDemand2 (c : Call) (block bytes answers : List ℕ) : Type 0 where
+  pub as-long : length (recordAfter c block bytes answers) ≡ length (oursAfter c (length bytes) answers .events)
+  pub struck : struckAfter c block bytes answers ≡ struckIn (oursAfter c (length bytes) answers)
+  pub unstruck : Records c block bytes answers (oursAfter c (length bytes) answers)
 
 -- two calls, whatever their blocks and the bytes to read into were before: after begin and after each step struck records are equal, and
--- ends alike. (That records and ends are layer 1's, unstruck as well, is demand 2.)
-pub record SeenAlike (Alike : Ending → Ending → Type 0) (turns : ℕ) (c₁ c₂ : Call) (b₁ r₁ b₂ r₂ xs ys : List ℕ) : Type 0 where
-  pub records : (i : ℕ) → struckAfter turns c₁ b₁ r₁ (take i xs) ≡ struckAfter turns c₂ b₂ r₂ (take i ys)
+-- ends alike; and both calls' are those of demand 2
+pub record SeenAlike (Alike : Ending → Ending → Type 0) (c₁ c₂ : Call) (b₁ r₁ b₂ r₂ xs ys : List ℕ) : Type 0 where
+  pub records : (i : ℕ) → struckAfter c₁ b₁ r₁ (take i xs) ≡ struckAfter c₂ b₂ r₂ (take i ys)
   pub ends : (i : ℕ) → EndsAlike Alike (endAfter c₁ b₁ r₁ (take i xs)) (endAfter c₂ b₂ r₂ (take i ys))
+  pub first : (i : ℕ) → OfDemand2 c₁ b₁ r₁ (take i xs)
+  pub second : (i : ℕ) → OfDemand2 c₂ b₂ r₂ (take i ys)
+
+-- the ends of two replies of these lengths: both fail alike, or both are done, where one number of bytes sent and its length give each the
+-- bytes left over
+pub data RepliesEnd (n m : ℕ) : Ending → Ending → Type 0 where
+  both-failed : (f : Failure) → RepliesEnd n m (Failed f) (Failed f)
+  both-done : (sent : ℕ) → RepliesEnd n m (returned (statusNumber (send-status n sent))) (returned (statusNumber (send-status m sent)))
 
 -- two transfers of one kind, chip and address (a transaction, a write-read, or a frame with its option) whose runs agree in direction and
 -- total length
@@ -275,34 +434,52 @@ pub data SameRuns : Call → ℕ → Call → ℕ → Type 0 where
   writes : {chip address option : ℕ} {written₁ written₂ : List ℕ} {n m : ℕ} → length written₁ ≡ length written₂ → SameRuns (write chip address option written₁) n (write chip address option written₂) m
   reads : {chip address option : ℕ} {n : ℕ} → SameRuns (read chip address option) n (read chip address option) n
 
--- the bytes that a transfer is lent to write
-abbrev pub writtenBy : Call → List ℕ
-writtenBy (init chip input frequency duty) = []
-writtenBy (transaction chip address list written) = written
-writtenBy (writeRead chip address written) = written
-writtenBy (write chip address option written) = written
-writtenBy (read chip address option) = []
-writtenBy (initSlave ten address has second general stretching) = []
-writtenBy (listen chip) = []
-writtenBy (respondToWrite chip) = []
-writtenBy (respondToRead chip reply) = reply
+-- each run's written bytes, joined
+abbrev pub bytesOfRun : Joined → List ℕ
+bytesOfRun (JW bytes) = bytes
+bytesOfRun (JR n) = []
 
+abbrev pub writtenRuns : Call → List (List ℕ)
+writtenRuns (init chip input frequency duty) = []
+writtenRuns (transaction chip address list written) = map bytesOfRun (joined (cut (operationsOf list) written))
+writtenRuns (writeRead chip address written) = written ∷ [] ∷ []
+writtenRuns (write chip address option written) = written ∷ []
+writtenRuns (read chip address option) = [] ∷ []
+writtenRuns (initSlave ten address has second general stretching) = []
+writtenRuns (listen chip) = []
+writtenRuns (respondToWrite chip) = []
+writtenRuns (respondToRead chip reply) = []
+
+-- payloads agree: what each run writes, and the answers at payload reads
+pub record PayloadsAgree (c₁ c₂ : Call) (b₁ r₁ b₂ r₂ xs ys : List ℕ) : Type 0 where
+  pub written : writtenRuns c₁ ≡ writtenRuns c₂
+  pub answered : payloadIn (recordAfter c₁ b₁ r₁ xs) ≡ payloadIn (recordAfter c₂ b₂ r₂ ys)
+
+-- unstruck records are equal, and ends too, after begin and after each step
+pub record SeenSame (c₁ c₂ : Call) (b₁ r₁ b₂ r₂ xs ys : List ℕ) : Type 0 where
+  pub records : (i : ℕ) → recordAfter c₁ b₁ r₁ (take i xs) ≡ recordAfter c₂ b₂ r₂ (take i ys)
+  pub ends : (i : ℕ) → endAfter c₁ b₁ r₁ (take i xs) ≡ endAfter c₂ b₂ r₂ (take i ys)
+
+-- "Nobody who records all accesses of a call, payload values struck out, can learn its payload."
 pub record Demand3 : Type 0 where
-  -- transfers; answers that differ only where the first call owes a payload read
+  -- "Take any two accepted master transfers (transactions, write-reads or frames) of one kind, chip and address, whose runs agree in direction
+  -- and total length, divided into operations in any way. For every two lists of answers, equal except at payload reads and fed step by step
+  -- from begin on, struck records and ends are equal after begin and after each step, and are those of demand 2."
   pub transfers : (c₁ c₂ : Call) (b₁ r₁ b₂ r₂ : List ℕ) → SameRuns c₁ (length r₁) c₂ (length r₂) → Reads c₁ r₁ → Reads c₂ r₂ → Accepted c₁ b₁ r₁ → Accepted c₂ b₂ r₂
-      → (turns : ℕ) (xs ys : List ℕ) → length xs < turns → length ys < turns → DifferInPayload (ours turns c₁ (length r₁) xs .events) xs ys
-      → SeenAlike Same turns c₁ c₂ b₁ r₁ b₂ r₂ xs ys
-  -- the payloads agree too, written and answered: unstruck records are equal
+      → (xs ys : List ℕ) → DifferAtPayload (recordAfter c₁ b₁ r₁ xs) xs ys → SeenAlike Same c₁ c₂ b₁ r₁ b₂ r₂ xs ys
+  -- "If payloads agree too, unstruck records are equal; in any case each is demand 2's."
   pub transfers-whole : (c₁ c₂ : Call) (b₁ r₁ b₂ r₂ : List ℕ) → SameRuns c₁ (length r₁) c₂ (length r₂) → Reads c₁ r₁ → Reads c₂ r₂ → Accepted c₁ b₁ r₁ → Accepted c₂ b₂ r₂
-      → writtenBy c₁ ≡ writtenBy c₂ → (answers : List ℕ) → recordAfter c₁ b₁ r₁ answers ≡ recordAfter c₂ b₂ r₂ answers
-  -- receives of one chip and buffer length
+      → (xs ys : List ℕ) → DifferAtPayload (recordAfter c₁ b₁ r₁ xs) xs ys → PayloadsAgree c₁ c₂ b₁ r₁ b₂ r₂ xs ys → SeenSame c₁ c₂ b₁ r₁ b₂ r₂ xs ys
+  -- "All this holds as well for any two accepted slave receives of one chip and buffer length."
   pub receives : (chip : ℕ) (b₁ r₁ b₂ r₂ : List ℕ) → length r₁ ≡ length r₂ → Accepted (respondToWrite chip) b₁ r₁ → Accepted (respondToWrite chip) b₂ r₂
-      → (turns : ℕ) (xs ys : List ℕ) → length xs < turns → length ys < turns → DifferInPayload (ours turns (respondToWrite chip) (length r₁) xs .events) xs ys
-      → SeenAlike Same turns (respondToWrite chip) (respondToWrite chip) b₁ r₁ b₂ r₂ xs ys
+      → (xs ys : List ℕ) → DifferAtPayload (recordAfter (respondToWrite chip) b₁ r₁ xs) xs ys → SeenAlike Same (respondToWrite chip) (respondToWrite chip) b₁ r₁ b₂ r₂ xs ys
   pub receives-whole : (chip : ℕ) (b₁ r₁ b₂ r₂ : List ℕ) → length r₁ ≡ length r₂ → Accepted (respondToWrite chip) b₁ r₁ → Accepted (respondToWrite chip) b₂ r₂
-      → (answers : List ℕ) → recordAfter (respondToWrite chip) b₁ r₁ answers ≡ recordAfter (respondToWrite chip) b₂ r₂ answers
-  -- replies at one chip, whatever their bytes and lengths, and the same answers; at equal lengths the ends too
-  pub replies : (chip : ℕ) (reply₁ reply₂ b₁ b₂ : List ℕ) → Accepted (respondToRead chip reply₁) b₁ [] → Accepted (respondToRead chip reply₂) b₂ [] → (turns : ℕ) (answers : List ℕ)
-      → length answers < turns → SeenAlike Any turns (respondToRead chip reply₁) (respondToRead chip reply₂) b₁ [] b₂ [] answers answers
+      → (xs ys : List ℕ) → DifferAtPayload (recordAfter (respondToWrite chip) b₁ r₁ xs) xs ys → PayloadsAgree (respondToWrite chip) (respondToWrite chip) b₁ r₁ b₂ r₂ xs ys
+      → SeenSame (respondToWrite chip) (respondToWrite chip) b₁ r₁ b₂ r₂ xs ys
+  -- "For any two accepted slave replies at one chip, whatever their bytes and lengths, and every list of answers, the same fed to both, struck
+  -- records are equal after begin and after each step, so that beside payload values only the end may depend on the length; at equal lengths
+  -- ends are equal too. Records, unstruck as well, and ends are those of demand 2."
+  pub replies : (chip : ℕ) (reply₁ reply₂ b₁ b₂ : List ℕ) → Accepted (respondToRead chip reply₁) b₁ [] → Accepted (respondToRead chip reply₂) b₂ [] → (answers : List ℕ)
+      → SeenAlike (RepliesEnd (length reply₁) (length reply₂)) (respondToRead chip reply₁) (respondToRead chip reply₂) b₁ [] b₂ [] answers answers
   pub replies-of-one-length : (chip : ℕ) (reply₁ reply₂ b₁ b₂ : List ℕ) → length reply₁ ≡ length reply₂ → Accepted (respondToRead chip reply₁) b₁ [] → Accepted (respondToRead chip reply₂) b₂ []
-      → (turns : ℕ) (answers : List ℕ) → length answers < turns → SeenAlike Same turns (respondToRead chip reply₁) (respondToRead chip reply₂) b₁ [] b₂ [] answers answers
+      → (answers : List ℕ) → SeenAlike Same (respondToRead chip reply₁) (respondToRead chip reply₂) b₁ [] b₂ [] answers answers

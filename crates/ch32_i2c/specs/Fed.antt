@@ -1,18 +1,20 @@
 -- A call as a C program makes it: begin, and then a step with each answer.
 use mathlib.Core.Path.{_≡_}
-use mathlib.Core.Bool.{Bool, true, false, cond}
+use mathlib.Core.Bool.{Bool, true, false, cond, not}
 use mathlib.Core.List.{List, [], _∷_, _++_, map}
 use mathlib.Core.Option.{Option, none, some}
 use Prim.Native.Nat.{ℕ, zero, suc}
 use lib.ListN.{length, set}
+use Rattle.registers.specs.declared.register.Register.{Register}
 use Rattle.registers.specs.declared.register.Register.the-variants.{Datar}
 use Rattle.access.specs.declared.ending.Ending.{Ending}
 use Rattle.access.specs.declared.ending.Error.the-variants.{InvalidState}
 use Rattle.access.specs.declared.next.Next.{Next}
 use Rattle.access.specs.declared.next.Next.the-variants as next
-use Rattle.access.specs.Endings.{failed}
+use Rattle.access.specs.Endings.{failed, done}
 use Rattle.access.specs.Program.{Access, read, write, send, clock}
-use Rattle.access.specs.Record.{Event, Arrival, Shown, isData}
+use Rattle.access.specs.Record.{Event, Arrival, Shown, Struck, isData, struck, EqualUnless}
+use Rattle.access.specs.Record as layer1
 use Rattle.ch32_i2c.specs.Left.{Left, refusedWith}
 
 -- what begin leaves of a block and the bytes read, and what a step with an answer leaves; all else is lent as at begin
@@ -89,6 +91,13 @@ pub record Makes (c : Entry) (block bytes answers : List ℕ) (s : Shown) : Type
   pub still : EndsStill (lefts c block bytes answers)
   pub read : lastFrom c (c .begin block bytes) answers .read ≡ stored (s .arrivals) bytes
 
+-- begin of an accepted call: it hands out an access and leaves a block that a step takes, or, if there is nothing to do, it is done at once
+pub record Begins (c : Entry) (takes : List ℕ → List ℕ → Bool) (nothing : Bool) (block bytes : List ℕ) : Type 0 where
+  pub access : nothing ≡ false → isEnd (c .begin block bytes .next) ≡ false
+  pub done : nothing ≡ true → c .begin block bytes .next ≡ next.End done
+  pub taken : takes (c .begin block bytes .block) (c .begin block bytes .read) ≡ not nothing
+  pub read : c .begin block bytes .read ≡ bytes
+
 -- ---- records
 
 -- an access as C sees it, with its answer, once it is given; a write has none
@@ -116,19 +125,72 @@ endIn (next.Write r v ∷ ns) = endIn ns
 endIn (next.Clock ∷ ns) = endIn ns
 endIn (next.End e ∷ ns) = some e
 
--- striking out: the value goes where layer 1 has a data byte sent or an answer to a read of DATAR
+-- layer 1's record as C sees it
+abbrev pub seenOf : Event → Seen
+seenOf e = record { next = nextOf (e .what); answer = e .answer }
+
+abbrev pub recordIn : Shown → List Seen
+recordIn s = map seenOf (s .events)
+
+-- ---- struck records
+
+-- striking out removes a payload value and keeps the access: a read or a write, with its register
 pub data StruckSeen : Type 0 where
   whole : Seen → StruckSeen
-  sent : StruckSeen
-  received : StruckSeen
+  readOf : Register → StruckSeen
+  writeOf : Register → StruckSeen
 
+-- an access without its value; only reads and writes have one that could be payload
+abbrev pub struckOut : Next → Option ℕ → StruckSeen
+struckOut (next.Read r) a = readOf r
+struckOut (next.Write r v) a = writeOf r
+struckOut next.Clock a = whole (record { next = next.Clock; answer = a })
+struckOut (next.End e) a = whole (record { next = next.End e; answer = a })
+
+-- layer 1 says what is payload: a data byte sent, and an answer to a read of DATAR
 abbrev pub strikeAs : Access → Seen → StruckSeen
-strikeAs (read r) x = cond (isData r) received (whole x)
+strikeAs (read r) x = cond (isData r) (struckOut (x .next) (x .answer)) (whole x)
 strikeAs (write r v) x = whole x
-strikeAs (send b) x = sent
+strikeAs (send b) x = struckOut (x .next) (x .answer)
 strikeAs clock x = whole x
 
+-- each access by layer 1's at its place; one that layer 1 does not have stays whole
 abbrev pub struckBy : List Event → List Seen → List StruckSeen
-struckBy [] xs = []
+struckBy [] xs = map whole xs
 struckBy (e ∷ es) [] = []
 struckBy (e ∷ es) (x ∷ xs) = strikeAs (e .what) x ∷ struckBy es xs
+
+-- layer 1's own struck record as C sees it
+abbrev pub asSeen : Struck → StruckSeen
+asSeen (layer1.whole e) = whole (seenOf e)
+asSeen layer1.sent = writeOf Datar
+asSeen layer1.received = readOf Datar
+
+abbrev pub struckIn : Shown → List StruckSeen
+struckIn s = map asSeen (struck s)
+
+-- ---- payload reads
+
+-- document 01's payload read
+abbrev pub isPayloadRead : Next → Bool
+isPayloadRead (next.Read r) = isData r
+isPayloadRead (next.Write r v) = false
+isPayloadRead next.Clock = false
+isPayloadRead (next.End e) = false
+
+-- two lists of answers, equally long, that may differ only where a call with this record owes a payload read
+abbrev pub DifferAtPayload : List Seen → List ℕ → List ℕ → Type 0
+DifferAtPayload rs [] [] = Unit {0}
+DifferAtPayload rs [] (b ∷ ys) = ⊥
+DifferAtPayload rs (a ∷ xs) [] = ⊥
+DifferAtPayload [] (a ∷ xs) (b ∷ ys) = (a ≡ b) × DifferAtPayload [] xs ys
+DifferAtPayload (r ∷ rs) (a ∷ xs) (b ∷ ys) = EqualUnless (isPayloadRead (r .next)) a b × DifferAtPayload rs xs ys
+
+-- the answers at payload reads
+abbrev pub given : Option ℕ → List ℕ → List ℕ
+given none rest = rest
+given (some a) rest = a ∷ rest
+
+abbrev pub payloadIn : List Seen → List ℕ
+payloadIn [] = []
+payloadIn (r ∷ rs) = cond (isPayloadRead (r .next)) (given (r .answer) (payloadIn rs)) (payloadIn rs)

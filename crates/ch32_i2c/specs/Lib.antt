@@ -4,5 +4,6 @@ pub mod Transfer
 pub mod InitSlave
 pub mod Response
 pub mod Fed
+pub mod Manual
 pub mod Demands
 pub mod Edges

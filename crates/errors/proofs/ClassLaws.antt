@@ -1,17 +1,14 @@
 -- Laws of a status word's class.
 -- Assumes nothing.
-use Prim.Native.Nat.{ℕ, _/_, _%_, _^_, _+_}
+use Prim.Native.Nat.{ℕ}
 use mathlib.Core.Path.{_≡_, refl, sym, ap, _∙_, subst}
 use mathlib.Core.Bool.{Bool, true, false, cond, _&&_}
 use mathlib.Core.List.{_∷_, _++_}
-use native.Mathlib.Nat.{zero-mod, zero-div}
-use native.Mathlib.Omega.{arith}
-use lib.Pow.{field, mod-mod-pow, shr-shr}
-use borrow.Author.Tests.{ne-eqb}
 use Rattle.registers.specs.declared.chip.Chip.{Chip}
 use Rattle.registers.specs.Bits.{BERR, ARLO, AF, OVR, PECERR, TIMEOUT}
 use Rattle.registers.specs.Word.{hasBit}
 use Rattle.registers.specs.Flags.{errorFlags}
+use Rattle.registers.proofs.FlagLaws.{clear-flags}
 use Rattle.access.specs.declared.ending.Error.the-variants.{Bus, Arbitration, Nack, Timeout, Crc, Overrun}
 use Rattle.access.specs.declared.ending.Failure.{Failure}
 use Rattle.access.specs.Endings.{failureOf, isMet}
@@ -73,38 +70,11 @@ as-ifs chip nack w = by-class chip nack w Failed Fine ∙ same (errorOf chip nac
     same Fine = refl
 
 -- a word without error flags shows no error
-clear-flag : (n w : ℕ) → (w / 2 ^ n % 2 ≡ 1 → ⊥) → hasBit n w ≡ false
-unfolding hasBit
-clear-flag n w h = ne-eqb (w / 2 ^ n % 2) 1 h
-
--- bits 8 to 12 are the digits of a number that is 0
-low-clear : (w : ℕ) → errorFlags w ≡ 0 → w / 2 ^ 8 % 2 ^ 5 ≡ 0
-unfolding errorFlags
-low-clear w z = omega arith
-
-high-clear : (w : ℕ) → errorFlags w ≡ 0 → w / 2 ^ 14 % 2 ≡ 0
-unfolding errorFlags
-high-clear w z = omega arith
-
-digit-clear : (x k j : ℕ) → x % 2 ^ (k + (1 + j)) ≡ 0 → x / 2 ^ j % 2 ≡ 1 → ⊥
-digit-clear x k j z e =
-    let a : x % 2 ^ (1 + j) ≡ 0 = sym (mod-mod-pow x k (1 + j)) ∙ ap (λ (n : ℕ). n % 2 ^ (1 + j)) z ∙ zero-mod (2 ^ (1 + j)) in
-    let b : x / 2 ^ j % 2 ≡ 0 = sym (field x 1 j) ∙ ap (λ (n : ℕ). n / 2 ^ j) a ∙ zero-div (2 ^ j) in
-    omega arith
-
 pub no-flags : (chip : Chip) (nack : Bool) (w : ℕ) → errorFlags w ≡ 0 → errorOf chip nack w ≡ Fine
 no-flags chip nack w z =
-    let low : (k j : ℕ) → k + (1 + j) ≡ 5 → w / 2 ^ (8 + j) % 2 ≡ 1 → ⊥ =
-    λ k j q e. digit-clear (w / 2 ^ 8) k j (subst (λ (n : ℕ). w / 2 ^ 8 % 2 ^ n ≡ 0) (sym q) (low-clear w z)) (ap (λ (n : ℕ). n % 2) (shr-shr w 8 j) ∙ e) in
+    let f = clear-flags w z in
     sym (as-ifs chip nack w)
-    ∙ rw (
-      clear-flag ARLO w (low 3 1 refl),
-      clear-flag TIMEOUT w (λ e. let h = high-clear w z in omega arith),
-      clear-flag PECERR w (low 0 4 refl),
-      clear-flag OVR w (low 1 3 refl),
-      clear-flag AF w (low 2 2 refl),
-      clear-flag BERR w (low 4 0 refl),
-    )
+    ∙ rw (f .arlo, f .timeout, f .pecerr, f .ovr, f .af, f .berr)
     (rest (chip .«i2c_v3») nack (chip .ch32v4))
   where
     rest : (a b c : Bool) → cond (a && false) (Failed (failureOf Timeout)) (cond (b && false) (Failed (failureOf Nack)) (cond (c && false) (Failed (failureOf Bus)) Fine)) ≡ Fine

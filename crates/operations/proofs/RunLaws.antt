@@ -1,17 +1,22 @@
 -- Runs of what follows an open stretch.
 -- Assumes nothing.
 use Prim.Native.Nat.{ℕ, zero, suc, _+_, _*_, _≤_}
-use mathlib.Core.Path.{_≡_, refl}
-use mathlib.Core.Bool.{Bool, true, false, cond}
+use mathlib.Core.Path.{_≡_, refl, sym, ap, _∙_}
+use mathlib.Core.Bool.{Bool, true, false, cond, not, true≢false}
 use mathlib.Core.List.{List, [], _∷_}
 use native.Mathlib.Nat.{zero-add}
 use native.Mathlib.Omega.{arith}
-use lib.ListN.{length}
+use native.Mathlib.Decide.{ℕ-discrete}
+use lib.Dec.{leb}
+use lib.ListN.{length, getD}
+use borrow.Author.Tests.{leb-true, le-leb}
+use Rattle.access.proofs.Choice.{first-true, second-true, both-true}
 use Rattle.operations.specs.declared.operation.Direction.{Direction}
 use Rattle.operations.specs.declared.operation.Direction.the-variants.{Write, Read}
 use Rattle.operations.specs.declared.operation.Operation.{Operation}
-use Rattle.operations.specs.Operations.{directionOf, operationsOf}
+use Rattle.operations.specs.Operations.{isRead, directionOf, operationsOf}
 use Rattle.operations.specs.Runs.{span, same, runsFrom, runsOf, isEmpty}
+use Rattle.operations.specs.Search.{goesOn}
 
 pub same-self : (d : Direction) → same d d ≡ true
 same-self Write = refl
@@ -26,6 +31,29 @@ turned (suc zero) (suc zero) p q n = absurd (n refl)
 turned zero (suc (suc b)) p q n = absurd (omega arith)
 turned (suc zero) (suc (suc b)) p q n = absurd (omega arith)
 turned (suc (suc a)) b p q n = absurd (omega arith)
+
+-- a direction beside a write
+pub beside-write : (a b : Direction) (r : Bool) → a ≡ Write → r ≡ isRead b → not r ≡ same a b
+beside-write a b r p q = ap not q ∙ go b ∙ ap (λ (x : Direction). same x b) (sym p)
+  where
+    go : (b : Direction) → not (isRead b) ≡ same Write b
+    go Write = refl
+    go Read = refl
+
+-- the operation at a place goes on with a run, or not, by its number
+pub goes-by-number : (l : List ℕ) (at d : ℕ) (x : Direction) → d ≤ 1 → x ≡ directionOf d → goesOn l at x ≡ true → getD l at 0 ≡ d
+goes-by-number l at d x h e q =
+    let small : getD l at 0 ≤ 1 = leb-true (getD l at 0) 1 (first-true (leb (getD l at 0) 1) (same x (directionOf (getD l at 0))) q) in
+    by (ℕ-discrete (getD l at 0) d) small (second-true (leb (getD l at 0) 1) (same x (directionOf (getD l at 0))) q)
+  where
+    by : Dec (getD l at 0 ≡ d) → getD l at 0 ≤ 1 → same x (directionOf (getD l at 0)) ≡ true → getD l at 0 ≡ d
+    by (yes r) s t = r
+    by (no n) s t = absurd (true≢false (sym t ∙ ap (λ (y : Direction). same y (directionOf (getD l at 0))) e ∙ turned d (getD l at 0) h s n))
+
+pub stops-by-number : (l : List ℕ) (at d : ℕ) (x : Direction) → d ≤ 1 → x ≡ directionOf d → goesOn l at x ≡ false → getD l at 0 ≡ d → ⊥
+stops-by-number l at d x h e q r =
+    true≢false
+    (sym (both-true (le-leb (getD l at 0) 1 (omega (arith, r, h))) (ap (λ (n : ℕ). same x (directionOf n)) r ∙ ap (λ (y : Direction). same y (directionOf d)) e ∙ same-self (directionOf d))) ∙ q)
 
 -- a stretch that is begun is a run at least
 pub begun : (d : Direction) (n : ℕ) (os : List Operation) → isEmpty (runsFrom d n os) ≡ false

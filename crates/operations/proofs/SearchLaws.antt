@@ -2,7 +2,7 @@
 -- Assumes nothing.
 use Prim.Native.Nat.{ℕ, _+_, _-_, _≤_, _<_}
 use mathlib.Core.Path.{_≡_, refl, sym, ap, _∙_, subst}
-use mathlib.Core.Bool.{false, not}
+use mathlib.Core.Bool.{true, false, not}
 use mathlib.Core.List.{List, [], _∷_}
 use mathlib.Core.Logic.{_⊎_, ⊎-elim}
 use mathlib.Core.Option.{none, some}
@@ -20,9 +20,9 @@ use Rattle.operations.specs.declared.search.Tally.{Tally}
 use Rattle.operations.specs.Operations.{directionOf, emptyRead, operationAt, operationsOf}
 use Rattle.operations.specs.Runs.{span, writtenIn, readIn, runsFrom, runsOf, isEmpty, sumsOf, runAt}
 use Rattle.operations.specs.Tally.{passed, passedAll, nonePassed}
-use Rattle.operations.specs.Search.{faultFrom, verdictAt, validateOperations}
+use Rattle.operations.specs.Search.{faultFrom, goesOn, verdictAt, validateOperations}
 use Rattle.operations.proofs.ListLaws.{no-operation, no-fault, operation-first, fault-next, direction-small}
-use Rattle.operations.proofs.RunLaws.{turned, opens, joins, ends-by-turn, ends-at-end, none-follows, some-follows}
+use Rattle.operations.proofs.RunLaws.{goes-by-number, stops-by-number, turned, opens, joins, ends-by-turn, ends-at-end, none-follows, some-follows}
 use Rattle.operations.proofs.TallyLaws.{all-written, all-read, all-found}
 
 -- the tally of the whole list
@@ -95,6 +95,17 @@ run-begins l k at d total tally b h e p =
 sums-grow : (t : Tally) (d : Direction) (n : ℕ) → t .written + writtenIn (span d n) + (t .read + readIn (span d n)) ≡ t .written + t .read + n
 sums-grow t Write n = omega arith
 sums-grow t Read n = omega arith
+
+-- whether the next operation goes on with the run, by its number
+module _ {l : List ℕ} {k at₀ at d start total : ℕ} {tally : Tally} (w : Within l k at₀ at d start total tally) (o : Operation) (eo : o ≡ operationAt l at) where
+  going : o .direction ≡ directionOf d
+  going = ap (λ (x : Operation). x .direction) eo ∙ ap directionOf (w .direction)
+
+  pub goes-on-by : goesOn l (at + 3) (o .direction) ≡ true → getD l (at + 3) 0 ≡ d
+  goes-on-by q = goes-by-number l (at + 3) d (o .direction) (w .known) going q
+
+  pub turns-by : goesOn l (at + 3) (o .direction) ≡ false → getD l (at + 3) 0 ≡ d → ⊥
+  turns-by q = stops-by-number l (at + 3) d (o .direction) (w .known) going q
 
 -- an operation without a fault is passed: what is then known of the place behind it
 module _ (l : List ℕ) (k at₀ at d start total : ℕ) (o : Operation) (tally : Tally) (w : Within l k at₀ at d start total tally) (eo : o ≡ operationAt l at)

@@ -2,6 +2,7 @@
 ghost use mathlib.Core.Path.{_≡_};
 ghost use Prim.Native.Nat.{_+_, _*_, _≤_};
 ghost use lib.ListN.{length};
+ghost use Rattle.operations.specs.Runs.{same};
 ghost use Rattle.operations.specs.Operations.{isRead, emptyRead, directionOf, wordOf, operationAt};
 
 pub enum Direction {
@@ -20,6 +21,15 @@ pub fn is_read(direction: Direction) -> bool
     match direction {
         Direction::Write => false,
         Direction::Read => true,
+    }
+}
+
+pub fn is_same(one: Direction, other: Direction) -> bool
+    ensures { λ r. ⌜ r ≡ same one other ⌝ }
+{
+    match one {
+        Direction::Write => !is_read(other),
+        Direction::Read => is_read(other),
     }
 }
 

@@ -1,9 +1,10 @@
 // One search over the runs of a list and their operations: the first fault, or the sums and the run that is asked for.
 ghost use mathlib.Core.Path.{_≡_};
 ghost use Prim.Native.Nat.{_+_, _≤_, pred};
+ghost use lib.ListN.{length};
 ghost use Rattle.operations.specs.Runs.{span};
 ghost use Rattle.operations.specs.Tally.{foundWith, passed};
-ghost use Rattle.operations.specs.Search.{validateOperations};
+ghost use Rattle.operations.specs.Search.{goesOn, validateOperations};
 use crate::operation;
 use crate::operation::Direction;
 use access::Error;
@@ -90,6 +91,16 @@ fn passed(tally: Tally, direction: Direction, length: u16, more: bool) -> Tally
     }
 }
 
+// Whether the operation at a place goes on with a run of a direction.
+fn goes_on(list: &[u8], at: usize, direction: Direction) -> bool
+    requires { ⌜ at + 3 ≤ length (now list) ⌝ }
+    ensures { λ r. ⌜ r ≡ goesOn (now (list .entry)) at direction ⌝ }
+{
+    let next = operation::operation_at(list, at);
+    let turned = next.direction;
+    (list[at] <= 1) & operation::is_same(direction, turned)
+}
+
 // The Rust's `validate_operations`, left from inside at the first fault: an operation that is none (16), an empty read (6),
 // or a total above 65,535 (8). A list without a fault has its sums, and the run of a number.
 pub fn validate_operations(list: &[u8], number: u16) -> Searched
@@ -135,7 +146,8 @@ pub fn validate_operations(list: &[u8], number: u16) -> Searched
             if list.len() - at < 3 {
                 break;
             }
-            if list[at] != direction {
+            let going = operation.direction;
+            if !goes_on(list, at, going) {
                 break;
             }
         }

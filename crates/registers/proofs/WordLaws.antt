@@ -39,6 +39,11 @@ module _ (f : Field) where
   unfolding fieldOf
   field-back v w = ap (λ (x : ℕ). x % 2 ^ f .size) (middle v w) ∙ low _ (f .size) (mod-lt v (pow-pos (f .size)))
 
+  -- a field has no more than its bits
+  pub field-bound : (w : ℕ) → fieldOf f w < 2 ^ f .size
+  unfolding fieldOf
+  field-bound w = mod-lt (w / 2 ^ f .at) (pow-pos (f .size))
+
   upper : (v w : ℕ) → putField f v w / 2 ^ (f .at + f .size) ≡ w / 2 ^ (f .at + f .size)
   unfolding above
   upper v w =
@@ -144,6 +149,16 @@ bit-other m n b w ne = ap (λ (x : ℕ). eqb x 1) (go (decLt n m))
     go : Dec (n < m) → fieldOf (bitField m) (putField (bitField n) (cond b 1 0) w) ≡ fieldOf (bitField m) w
     go (yes h) = field-above (bitField n) (bitField m) (cond b 1 0) w (omega arith)
     go (no h) = field-below (bitField n) (bitField m) (cond b 1 0) w (omega arith)
+
+-- a bit above a field that is written stays
+pub bit-above : (f : Field) (n v w : ℕ) → f .at + f .size ≤ n → hasBit n (putField f v w) ≡ hasBit n w
+unfolding hasBit fieldOf
+bit-above f n v w h = ap (λ (x : ℕ). eqb x 1) (field-above f (bitField n) v w h)
+
+-- a bit cleared in 0 leaves 0
+pub cleared-none : (n : ℕ) → putBit n false 0 ≡ 0
+unfolding putBit putField
+cleared-none n = omega (arith, zero-mul (2 ^ n))
 
 -- ---- the code's shifts and masks
 

@@ -10,7 +10,8 @@ use lib.Dec.{ltb}
 use lib.ListN.{length}
 use Rattle.registers.specs.declared.chip.Chip.{Chip}
 use Rattle.registers.specs.declared.register.Register.the-variants.{Oaddr1, Oaddr2}
-use Rattle.registers.specs.Word.{putBit}
+use Rattle.registers.specs.Bits.{ENDUAL}
+use Rattle.registers.proofs.WordLaws.{cleared-none}
 use Rattle.registers.proofs.AddressLaws.{seven-fields, ten-fields, second-fields}
 use Rattle.access.specs.declared.ending.Error.the-variants.{InvalidAddress, BufferTooLong}
 use Rattle.access.specs.declared.ending.Failure.{Failure}
@@ -65,8 +66,7 @@ own-word-is (SevenBit a) = seven-fields a
 own-word-is (TenBit a) = ten-fields a
 
 second-word-is : (s : SecondAddress) → rust.second-word s ≡ secondWord s
-unfolding putBit
-second-word-is Nothing = refl
+second-word-is Nothing = cleared-none ENDUAL
 second-word-is (At a) = second-fields a
 
 pub init-slave-agrees : (c : SlaveConfig) (n at : ℕ) (h : Failure → Program) → Agree initMachine [] n at (rust.init-slave c n h (λ _. finish done)) (started c)

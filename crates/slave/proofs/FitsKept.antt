@@ -9,6 +9,7 @@ use lib.Dec.{eqb, leb, ltb}
 use Rattle.registers.specs.declared.chip.Chip.{Chip}
 use Rattle.registers.specs.Bits.{ADDMODE, ADDR, STOPF, RXNE, TXE, AF, MSL, BUSY, GENCALL, DUALF}
 use Rattle.registers.specs.Fields.{«ADD9_0», «ADD7_1», ADD2}
+use Rattle.registers.proofs.WordLaws.{field-bound}
 use Rattle.registers.specs.Word.{hasBit, fieldOf}
 use Rattle.registers.specs.Flags.{errorFlags}
 use Rattle.access.specs.declared.ending.Failure.{Failure}
@@ -47,16 +48,13 @@ use Rattle.slave.specs.Claims.{StatesFit}
 -- ---- a command is below 12,288
 
 seven-below : (w : ℕ) → fieldOf «ADD7_1» w < 128
-unfolding fieldOf
-seven-below w = omega arith
+seven-below w = field-bound «ADD7_1» w
 
 pub second-below : (w : ℕ) → fieldOf ADD2 w < 128
-unfolding fieldOf
-second-below w = omega arith
+second-below w = field-bound ADD2 w
 
 ten-below : (w : ℕ) → fieldOf «ADD9_0» w < 1024
-unfolding fieldOf
-ten-below w = omega arith
+ten-below w = field-bound «ADD9_0» w
 
 kind-below : (k : SlaveCommandKind) → kindNumber k ≤ 2
 kind-below GeneralCall = omega arith

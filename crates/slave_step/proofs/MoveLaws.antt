@@ -9,6 +9,7 @@ use lib.Dec.{leb, ltb}
 use borrow.Author.Tests.{lt-ltb, le-ltb, le-leb, lt-leb, leb-true}
 use Rattle.registers.specs.Fields.{«ADD9_0»}
 use Rattle.registers.specs.Word.{fieldOf}
+use Rattle.registers.proofs.WordLaws.{field-bound}
 use Rattle.access.specs.declared.need.Need.the-variants as need
 use Rattle.access.specs.Endings.{returned}
 use Rattle.access.proofs.Choice.{when-true, when-false}
@@ -23,8 +24,7 @@ use Rattle.slave_step.proofs.Laws.{reads}
 -- ---- a command
 
 pub ten-told : (w : ℕ) → fieldOf «ADD9_0» w % 1024 + 1024 ≡ fieldOf «ADD9_0» w + 1024
-unfolding fieldOf
-ten-told w = omega arith
+ten-told w = let h : fieldOf «ADD9_0» w < 1024 = field-bound «ADD9_0» w in omega arith
 
 pub commanded-told : (d : Progress) (v address star2 n : ℕ) → (address < 2048 → v ≡ address + kindNumber (kindOf star2) * 4096) → star2 ≡ d .word → address ≡ n → n < 2048
     → to Ended (endsWith (returned v) d) ≡ to Ended (endsWith (returned (n + kindNumber (kindOf (d .word)) * 4096)) d)

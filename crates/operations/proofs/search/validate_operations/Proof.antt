@@ -6,9 +6,10 @@ use mathlib.Core.Logic.{_⊎_, inl, inr, ⊎-elim}
 use native.Mathlib.Omega.{arith}
 use borrow.Author.Needs.{needs}
 use lib.ListN.{length, getD}
+use borrow.Author.Tests.{not-true, not-false}
 use Rattle.operations.specs.Tally.{passed}
 use Rattle.operations.proofs.ListLaws.{part-fault, fault-direction, fault-empty, fault-total}
-use Rattle.operations.proofs.SearchLaws.{Between, Within, at-start, at-end, at-fault, run-begins, run-goes-on, run-ends}
+use Rattle.operations.proofs.SearchLaws.{Between, Within, at-start, at-end, at-fault, run-begins, goes-on-by, turns-by, run-goes-on, run-ends}
 use Rattle.operations.proofs.search.validate_operations.Statement.{statement}
 use Rattle.operations.proofs.search.validate_operations.Tie as tie
 
@@ -30,7 +31,11 @@ left-by : (c : tie.Joined6 Inv-loop μ-loop Inv-runs μ-runs)
     let at = c .before .before .before .before .before .before .loop .at in
     let direction = getD l (c .before .before .before .before .before .before .before .before .before .before .before .runs .at) 0 in
     (length l - (at + 3) < 3) ⊎ ((3 ≤ length l - (at + 3)) × (getD l (at + 3) 0 ≡ direction → ⊥))
-left-by c = ⊎-elim (λ w. inl (w .taken)) (λ w. inr (w .0 .left, w .2 .taken)) (c .if6 .came)
+left-by c =
+    let o = c .before .before .before .before .before in
+    let k = o .before .loop .inv in
+    ⊎-elim (λ w. inl (w .taken))
+    (λ w. inr (w .0 .left, turns-by k (o .operation-at .result) (o .operation-at .ensures) (sym (w .1 .ensures) ∙ not-true _ (w .2 .taken)))) (c .if6 .came)
 
 runs-again : tie.Need-runs-again Inv-loop μ-loop Inv-runs μ-runs
 runs-again c =
@@ -45,7 +50,8 @@ loop-again c =
     let e = c .before .before .before .before .before .before in
     let o = e .before in
     run-goes-on _ _ _ _ _ _ _ (o .operation-at .result) _ (o .before .loop .inv) (o .operation-at .ensures) (sym (e .is-empty-read .ensures) ∙ c .before .before .before .before .before .if4 .left) (c .before .before .before .if5 .left)
-    (omega (arith, c .before .before .if6 .left)) (c .if7 .left)
+    (omega (arith, c .before .before .if6 .left))
+    (goes-on-by (o .before .loop .inv) (o .operation-at .result) (o .operation-at .ensures) (sym (c .before .goes-on .ensures) ∙ not-false _ (c .if7 .left)))
 
 pub validate-operations-spec : {M : Type 1} → statement M
 validate-operations-spec =
@@ -66,7 +72,7 @@ validate-operations-spec =
     (λ c. omega (arith, c .before .before .before .before .loop .inv .small, c .before .before .before .operation-at .ok))
     (λ c. omega (arith, c .before .before .before .before .before .loop .inv .inside))
     (λ c. omega (arith, c .before .before .before .before .before .loop .inv .inside))
-    (λ c. omega (arith, c .before .if6 .left))
+    (λ c κs. omega (arith, c .if6 .left))
     (λ c. omega (arith, c .before .before .before .before .before .before .before .before .loop .inv .inside))
     loop-again
     (λ c κs. search needs)
