@@ -15,8 +15,9 @@ use Rattle.operations.specs.declared.operation.Direction.the-variants.{Write, R
 use Rattle.operations.specs.declared.search.FoundRun.the-variants.{Nothing}
 use Rattle.operations.specs.Operations.{directionOf, wordOf, operationAt, operationsOf}
 use Rattle.operations.specs.Runs.{span, writtenIn, readIn, writtenSum, readSum, runsFrom, runsOf, isEmpty, runFrom, runAt}
+use Rattle.operations.specs.Search.{goesOn}
 use Rattle.operations.proofs.ListLaws.{no-operation, operation-first}
-use Rattle.operations.proofs.RunLaws.{turned, opens, joins, ends-by-turn, ends-at-end, none-follows, some-follows}
+use Rattle.operations.proofs.RunLaws.{goes-by-number, stops-by-number, turned, opens, joins, ends-by-turn, ends-at-end, none-follows, some-follows}
 use Rattle.operations.proofs.SumLaws.{spanOf, eachSpan, written-runs, read-runs}
 use Rattle.list_run.specs.declared.runs.Place.{Place}
 use Rattle.list_run.specs.Passing.{fine, runsAfter, nowhere, startPlace, addedTo, writtenTo, readTo, Listed, Reached, Starts, Opens, Next, Passes, NextOne, PassesOne, Ahead, Skips, Between, Rests}
@@ -34,6 +35,13 @@ pub record Along (l : List ℕ) (p : Place) (d at sum : ℕ) : Type 0 where
   pub known : d ≤ 1
   pub sound : fine (drop at l) ≡ fine (drop (p .at) l)
   pub runs : runsFrom (directionOf d) sum (operationsOf (drop at l)) ≡ runsAfter l (p .at)
+
+-- whether the next operation goes on with the run, by its number
+pub goes-along : {l : List ℕ} {from : Place} {d at n : ℕ} → Along l from d at n → (x : Direction) → x ≡ directionOf d → goesOn l (at + 3) x ≡ true → getD l (at + 3) 0 ≡ d
+goes-along {l} {from} {d} {at} a x e q = goes-by-number l (at + 3) d x (a .known) e q
+
+pub turns-along : {l : List ℕ} {from : Place} {d at n : ℕ} → Along l from d at n → (x : Direction) → x ≡ directionOf d → goesOn l (at + 3) x ≡ false → getD l (at + 3) 0 ≡ d → ⊥
+turns-along {l} {from} {d} {at} a x e q = stops-by-number l (at + 3) d x (a .known) e q
 
 pub run-begins : (l : List ℕ) (last : ℕ) (p : Place) (d : ℕ) → Starts l last p → getD l (p .at) 0 ≡ d → d ≤ 1 → Along l p d (p .at) 0
 run-begins l last p d s e q =

@@ -4,6 +4,8 @@ ghost use mathlib.Core.Bool.{true};
 ghost use Prim.Native.Nat.{_≤_};
 ghost use Rattle.list_run.specs.Passing.{nowhere, startPlace, writtenTo, readTo, Listed, Reached, Starts, Opens, Passes, Skips, PassesOne, Rests};
 use operations::operation;
+use operations::operation::Direction;
+use operations::search;
 
 // Before a run, or behind the last one: the bytes written and read before it, and the direction and the bytes of the run behind
 // which it is. A place that is not `ok` is none.
@@ -85,7 +87,7 @@ fn pass_writes(list: &[u8], last: usize, from: Place) -> Place
         if last < at {
             return behind_writes(from, at, written);
         }
-        if list[at] != 0 {
+        if !search::goes_on(list, at, Direction::Write) {
             return behind_writes(from, at, written);
         }
     }
@@ -107,7 +109,7 @@ fn pass_reads(list: &[u8], last: usize, from: Place) -> Place
         if last < at {
             return behind_reads(from, at, read);
         }
-        if list[at] != 1 {
+        if !search::goes_on(list, at, Direction::Read) {
             return behind_reads(from, at, read);
         }
     }

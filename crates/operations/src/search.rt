@@ -92,7 +92,7 @@ fn passed(tally: Tally, direction: Direction, length: u16, more: bool) -> Tally
 }
 
 // Whether the operation at a place goes on with a run of a direction.
-fn goes_on(list: &[u8], at: usize, direction: Direction) -> bool
+pub fn goes_on(list: &[u8], at: usize, direction: Direction) -> bool
     requires { ⌜ at + 3 ≤ length (now list) ⌝ }
     ensures { λ r. ⌜ r ≡ goesOn (now (list .entry)) at direction ⌝ }
 {
