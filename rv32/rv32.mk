@@ -1,0 +1,31 @@
+# Archives for the chips, made from the module that `make lib` kept; see docs/FIRMWARE.md. The kit and python3 are all that this needs.
+MODULE = target/module
+MODULE_TEXT = $(MODULE)/module.ll
+MODULE_CHECKED = $(MODULE)/checked
+RV32 = target/rv32
+RV32_TARGETS = rv32imac rv32imafc rv32ec
+THUMB_TARGETS = cortex-m3
+VARIANTS = fast small
+archives = $(foreach t,$(1),$(foreach v,$(VARIANTS),$(RV32)/$(t)/libch32_i2c_$(v).a))
+
+.PHONY: rv32 thumb rv32-check
+
+rv32: $(call archives,$(RV32_TARGETS))
+thumb: $(call archives,$(THUMB_TARGETS))
+
+$(MODULE_TEXT): $(CH32_ARCHIVE)
+	@$$(rv32/kit)/clang -S -emit-llvm -Xclang -disable-llvm-passes -x ir $(MODULE)/module.bc -o $@
+
+# What the change of the text rests on: the module is what was proved, and no memory is used both as a pointer and as a number.
+$(MODULE_CHECKED): $(MODULE_TEXT) rv32/same_code rv32/pointers.py rv32/forms.py
+	@rv32/same_code $(MODULE_TEXT) $(MODULE)/words $(CH32_ARCHIVE)
+	@python3 -B rv32/pointers.py $(MODULE_TEXT)
+	@touch $@
+
+# These checks have to refuse the faults that are planted.
+rv32-check: $(MODULE_CHECKED)
+	@rv32/refused $(MODULE_TEXT) $(MODULE)/words $(CH32_ARCHIVE)
+
+$(call archives,$(RV32_TARGETS) $(THUMB_TARGETS)): $(RV32)/%.a: $(MODULE_CHECKED) rv32/archive rv32/machine rv32/to32.py include/ch32_i2c.h
+	@rv32/archive $(MODULE_TEXT) $@ $(word 1,$(subst /libch32_i2c_, ,$*)) $(word 2,$(subst /libch32_i2c_, ,$*))
+	@echo "$@"
