@@ -8,9 +8,11 @@ THUMB_TARGETS = cortex-m3
 VARIANTS = fast small
 archives = $(foreach t,$(1),$(foreach v,$(VARIANTS),$(RV32)/$(t)/libch32_i2c_$(v).a))
 
-.PHONY: rv32 thumb rv32-check
+.PHONY: rv32 thumb rv32-check rv32-test
 
-rv32: $(call archives,$(RV32_TARGETS))
+FIRMWARE = target/firmware/ch32v203c8.elf target/firmware/ch32v003.elf
+
+rv32: $(call archives,$(RV32_TARGETS)) $(FIRMWARE)
 thumb: $(call archives,$(THUMB_TARGETS))
 
 $(MODULE_TEXT): $(CH32_ARCHIVE)
@@ -29,3 +31,14 @@ rv32-check: $(MODULE_CHECKED)
 $(call archives,$(RV32_TARGETS) $(THUMB_TARGETS)): $(RV32)/%.a: $(MODULE_CHECKED) rv32/archive rv32/machine rv32/to32.py include/ch32_i2c.h
 	@rv32/archive $(MODULE_TEXT) $@ $(word 1,$(subst /libch32_i2c_, ,$*)) $(word 2,$(subst /libch32_i2c_, ,$*))
 	@echo "$@"
+
+# A first firmware: init and a write-read of a sensor.
+target/firmware/ch32v203c8.elf: $(RV32)/rv32imac/libch32_i2c_fast.a
+target/firmware/ch32v003.elf: $(RV32)/rv32ec/libch32_i2c_small.a
+$(FIRMWARE): target/firmware/%.elf: $(wildcard examples/firmware/*) $(wildcard include/*.h)
+	@examples/firmware/link $* $(filter %.a,$^) $@
+
+# The rest needs the packages that rv32/missing names; where they are missing it says so, and that nothing was run.
+
+rv32-test: rv32 $(C_OUT)/test_ch32_i2c
+	@rv32/test
