@@ -1,4 +1,4 @@
-/* On RV32: carries out what comes through the mailbox, for ever. */
+/* On RV32: carries out what comes through the mailbox. */
 #include "ch32_i2c.h"
 #include "mailbox.h"
 
@@ -41,6 +41,8 @@ int main(void)
         if (asked == m->answered)
             continue;
         __sync_synchronize();
+        if (m->function == STOP)
+            return 0;
         m->result = call(m);
         __sync_synchronize();
         m->answered = asked;

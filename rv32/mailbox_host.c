@@ -20,6 +20,14 @@ static void fail(const char *why)
     exit(3);
 }
 
+static void stop_guest(void)
+{
+    struct mailbox *m = (struct mailbox *)base;
+    m->function = STOP;
+    __sync_synchronize();
+    m->asked++;
+}
+
 static void open_mailbox(void)
 {
     const char *name = getenv("GUEST_RAM");
@@ -28,6 +36,7 @@ static void open_mailbox(void)
     if (ram == MAP_FAILED)
         fail("GUEST_RAM can't be opened");
     base = (uint8_t *)ram + (MAILBOX - RAM);
+    atexit(stop_guest);
 }
 
 static void lay(size_t at, const uint8_t *bytes, size_t length)
@@ -86,9 +95,12 @@ static uint64_t call(enum function function, uint8_t *block, size_t block_length
     lay(READ_AT, lent.read, lent.read_length);
     __sync_synchronize();
     m->asked++;
-    for (unsigned looks = 0; m->answered != m->asked; looks++)
+    for (unsigned long looks = 0; m->answered != m->asked; looks++) {
         if (looks > 2000)
             sched_yield();
+        if (looks > 100000000)
+            fail("no answer");
+    }
     __sync_synchronize();
     fetch(BLOCK_AT, block, block_length);
     check_unchanged(LIST_AT, lent.list, lent.list_length);

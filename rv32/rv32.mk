@@ -8,7 +8,7 @@ THUMB_TARGETS = cortex-m3
 VARIANTS = fast small
 archives = $(foreach t,$(1),$(foreach v,$(VARIANTS),$(RV32)/$(t)/libch32_i2c_$(v).a))
 
-.PHONY: rv32 thumb rv32-check rv32-test
+.PHONY: rv32 thumb rv32-check rv32-test rv32-compare rv32-courses rv32-faults
 
 FIRMWARE = target/firmware/ch32v203c8.elf target/firmware/ch32v003.elf
 
@@ -42,3 +42,26 @@ $(FIRMWARE): target/firmware/%.elf: $(wildcard examples/firmware/*) $(wildcard i
 
 rv32-test: rv32 $(C_OUT)/test_ch32_i2c
 	@rv32/test
+
+# The comparison with the Rust, which runs on x86-64, and the library on RV32: a program that has the library's functions as calls through a mailbox.
+# RV32_CALLS of each entry on each of four chips.
+RV32_CALLS ?= 25000
+RV32_LIB ?= $(RV32)/rv32imac/libch32_i2c_fast.a
+$(RV32)/mailbox.a: rv32/mailbox_host.c rv32/mailbox.h include/ch32_i2c.h
+	@mkdir -p $(RV32)
+	@$(CC) -std=gnu99 -O2 -Wall -Wextra -Werror -Iinclude -c $< -o $(RV32)/mailbox_host.o
+	@rm -f $@ && $(AR) rcs $@ $(RV32)/mailbox_host.o
+
+$(RV32)/compare: $(ORACLE)/liboracle.rlib $(CHIP_LIBS) $(ORACLE)/as_the_rust.o $(RV32)/mailbox.a $(wildcard oracle/program/*.rs)
+	@$(BIN) -C link-arg=$(RV32)/mailbox.a --crate-name compare -o $@ oracle/program/compare.rs
+
+rv32-compare: rv32 $(RV32)/compare rv32-courses
+	@rv32/compare $(RV32)/compare $(RV32_LIB) $(SEED) $(RV32_CALLS)
+
+# rv32/courses.h is what `make speed` runs.
+rv32-courses: $(ORACLE)/speed
+	@$(ORACLE)/speed courses | cmp - rv32/courses.h
+
+# Faults around the library on RV32 have to be found.
+rv32-faults: rv32 $(RV32)/compare
+	@rv32/find_faults $(RV32)/compare $(RV32_LIB)
