@@ -8,7 +8,7 @@ THUMB_TARGETS = cortex-m3
 VARIANTS = fast small
 archives = $(foreach t,$(1),$(foreach v,$(VARIANTS),$(RV32)/$(t)/libch32_i2c_$(v).a))
 
-.PHONY: rv32 thumb rv32-check rv32-test rv32-compare rv32-courses rv32-faults
+.PHONY: lib-fast rv32 thumb rv32-check rv32-test rv32-compare rv32-courses rv32-faults rv32-measure rv32-figures
 
 FIRMWARE = target/firmware/ch32v203c8.elf target/firmware/ch32v003.elf
 
@@ -19,7 +19,7 @@ $(MODULE_TEXT): $(CH32_ARCHIVE)
 	@$$(rv32/kit)/clang -S -emit-llvm -Xclang -disable-llvm-passes -x ir $(MODULE)/module.bc -o $@
 
 # What the change of the text rests on: the module is what was proved, and no memory is used both as a pointer and as a number.
-$(MODULE_CHECKED): $(MODULE_TEXT) rv32/same_code rv32/pointers.py rv32/forms.py
+$(MODULE_CHECKED): $(MODULE_TEXT) rv32/same_code rv32/object_here rv32/pointers.py rv32/forms.py
 	@rv32/same_code $(MODULE_TEXT) $(MODULE)/words $(CH32_ARCHIVE)
 	@python3 -B rv32/pointers.py $(MODULE_TEXT)
 	@touch $@
@@ -65,3 +65,20 @@ rv32-courses: $(ORACLE)/speed
 # Faults around the library on RV32 have to be found.
 rv32-faults: rv32 $(RV32)/compare
 	@rv32/find_faults $(RV32)/compare $(RV32_LIB)
+
+# Flash, stack and instructions, held to rv32/figures.txt. `make rv32-figures` writes that file anew.
+rv32-measure: rv32
+	@missing=$$(rv32/missing); if [ -n "$$missing" ]; then echo "RV32: NOT MEASURED, missing $$missing"; else python3 -B rv32/measure.py --check rv32/figures.txt; fi
+
+rv32-figures: rv32
+	@python3 -B rv32/measure.py > $(RV32)/figures.txt && cp $(RV32)/figures.txt rv32/figures.txt
+
+# For x86-64 too, the module with everything inlined: faster and larger than the kit's own archive, which `make lib` gives.
+LIB_FAST = target/x86_64/libch32_i2c_fast.a
+lib-fast: $(LIB_FAST)
+
+$(LIB_FAST): $(MODULE_CHECKED)
+	@mkdir -p $(@D)
+	@rv32/object_here $(MODULE_TEXT) $(MODULE)/words $(@D)/ch32_i2c.o -mllvm -inline-threshold=10000
+	@rm -f $@ && $$(rv32/kit)/llvm-ar rcs $@ $(@D)/ch32_i2c.o
+	@echo "$@"
