@@ -1,7 +1,8 @@
 /* The demonstration as firmware: demo/demo.c over the header's mapped port, at the address that I2C1 has on a CH32V203. Qemu's board `spike` has nothing
  * there, so each access traps; the handler takes the instruction apart, lets demo/sim.c answer, and goes on behind it. Anything but a 16-bit access
  * at a register's place fails. Meanwhile a timer interrupts every 100 to 700 instructions, and each time a slave's receive goes on by one
- * step, on a block of its own; it has to go as it went once with nothing else running. */
+ * step, on a block of its own; it has to go as it went once with nothing else running. The port's hooks hold the interrupts off; the handler sees at each
+ * access whether they are. */
 #include "course.h"
 #include "instruction.h"
 #include "port.h"
@@ -38,12 +39,29 @@ static int is_late(void *clock)
     return sim_now() > deadline;
 }
 
+static int holding;
+
+static void hold(void *interrupts)
+{
+    CLEAR_CSR("mstatus", INTERRUPTS);
+    *(int *)interrupts = 1;
+}
+
+static void release(void *interrupts)
+{
+    *(int *)interrupts = 0;
+    SET_CSR("mstatus", INTERRUPTS);
+}
+
 struct ch32_i2c_port port_make(int verbose)
 {
     struct ch32_i2c_port port = ch32_i2c_mapped_port(CH32_I2C_CHIP_V3, I2C1);
     (void)verbose;
     port.start_clock = start_clock;
     port.is_late = is_late;
+    port.interrupts = &holding;
+    port.hold = hold;
+    port.release = release;
     return port;
 }
 
@@ -96,6 +114,7 @@ static void receive_alone(void)
 static void tick(uint32_t pc)
 {
     ticks++;
+    wrong += (unsigned long)holding;
     inside += pc - (uint32_t)(uintptr_t)ch32_i2c_write_read_step < 4096u;
     if (receive_on(&disturbed)) {
         wrong += memcmp(&disturbed, &alone, sizeof alone) != 0 || !ch32_i2c_is_done(alone.numbers[alone.count - 1]);
@@ -127,7 +146,25 @@ static void carry_out(uint32_t *x, struct access a, uint32_t pc, uint32_t addres
         x[a.x] = sim_read(NULL, number);
 }
 
-static unsigned long traps;
+/* The accesses with interrupts off, and the sections that they make. By blocking_read_iter the reads of the demonstration have, each section in
+ * brackets: four of 2 bytes [3] [4], one of 5 bytes [1] [4], one of 1 byte [5], one of 2 bytes [3] [4]. */
+#define SECTIONS 13
+#define HELD_ACCESSES 45
+
+static unsigned long traps, held_accesses, sections;
+static int was_held;
+
+static void note_hold(void)
+{
+    uint32_t status;
+    int is_held;
+    READ_CSR("mstatus", status);
+    is_held = !(status & INTERRUPTS_BEFORE);
+    wrong += is_held != holding;
+    held_accesses += (unsigned long)is_held;
+    sections += is_held && !was_held;
+    was_held = is_held;
+}
 
 /* x are the registers. Gives the place to go on. */
 uint32_t handle(uint32_t *x)
@@ -143,6 +180,7 @@ uint32_t handle(uint32_t *x)
     if (cause != LOAD_FAULT && cause != STORE_FAULT)
         fail("another trap", pc, address);
     traps++;
+    note_hold();
     carry_out(x, access_at(pc), pc, address);
     return pc + access_at(pc).length;
 }
@@ -168,7 +206,8 @@ int main(int count, char **arguments)
     SET_CSR("mstatus", INTERRUPTS);
     result = demo_main(count, arguments);
     CLEAR_CSR("mstatus", INTERRUPTS);
-    printf("board: %lu accesses trapped, %lu interrupts, %lu of them inside write_read_step, %lu calls in them, %lu wrong\n", traps, ticks, inside,
-           calls, wrong);
-    return result || wrong || traps == 0 || inside == 0 || calls == 0;
+    printf("board: %lu accesses trapped, %lu of them in %lu sections without interrupts; %lu interrupts, %lu of them inside write_read_step, %lu calls "
+           "in them, %lu wrong\n",
+           traps, held_accesses, sections, ticks, inside, calls, wrong);
+    return result || wrong || traps == 0 || inside == 0 || calls == 0 || held_accesses != HELD_ACCESSES || sections != SECTIONS;
 }

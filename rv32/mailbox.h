@@ -17,13 +17,14 @@ enum function {
     INIT_BEGIN, INIT_STEP, TRANSACTION_BEGIN, TRANSACTION_STEP, WRITE_READ_BEGIN, WRITE_READ_STEP, WRITE_BEGIN, WRITE_STEP, READ_BEGIN,
     READ_STEP, INIT_SLAVE_BEGIN, INIT_SLAVE_STEP, LISTEN_BEGIN, LISTEN_STEP, RESPOND_TO_WRITE_BEGIN, RESPOND_TO_WRITE_STEP,
     RESPOND_TO_READ_BEGIN, RESPOND_TO_READ_STEP,
+    IS_CRITICAL,
     STOP /* the guest ends */
 };
 
 struct mailbox {
     volatile uint32_t asked, answered; /* equal: nothing to do */
     uint32_t function, block_length, list_length, written_length, read_length, numbers[6];
-    uint64_t result;
+    uint64_t result, critical; /* what the function returns; and then is_critical of the block */
 };
 
 #endif

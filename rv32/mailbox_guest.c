@@ -29,6 +29,7 @@ static uint64_t call(const struct mailbox *m)
     case RESPOND_TO_WRITE_BEGIN: return ch32_i2c_respond_to_write_begin(block, b, n0, read, r);
     case RESPOND_TO_WRITE_STEP: return ch32_i2c_respond_to_write_step(block, b, read, r, answer);
     case RESPOND_TO_READ_BEGIN: return ch32_i2c_respond_to_read_begin(block, b, n0, written, w);
+    case IS_CRITICAL: return ch32_i2c_is_critical(block, b);
     default: return ch32_i2c_respond_to_read_step(block, b, written, w, answer);
     }
 }
@@ -44,6 +45,7 @@ int main(void)
         if (m->function == STOP)
             return 0;
         m->result = call(m);
+        m->critical = ch32_i2c_is_critical((const uint8_t *)MAILBOX + BLOCK_AT, m->block_length);
         __sync_synchronize();
         m->answered = asked;
     }

@@ -141,3 +141,15 @@ uint64_t ch32_i2c_respond_to_write_begin(BLOCK, uint8_t chip, READ) { return CAL
 uint64_t ch32_i2c_respond_to_write_step(BLOCK, READ, uint16_t answer) { return CALL(RESPOND_TO_WRITE_STEP, TO_READ, answer); }
 uint64_t ch32_i2c_respond_to_read_begin(BLOCK, uint8_t chip, WRITTEN) { return CALL(RESPOND_TO_READ_BEGIN, TO_WRITE, chip); }
 uint64_t ch32_i2c_respond_to_read_step(BLOCK, WRITTEN, uint16_t answer) { return CALL(RESPOND_TO_READ_STEP, TO_WRITE, answer); }
+/* Of the block that was handed back last it is known already. */
+uint64_t ch32_i2c_is_critical(const uint8_t *block, size_t b)
+{
+    const struct mailbox *m = (const struct mailbox *)base;
+    uint8_t copy[64];
+    if (base && b == m->block_length && memcmp(base + BLOCK_AT, block, b) == 0)
+        return m->critical;
+    if (b > sizeof copy)
+        fail("a block that is too long");
+    memcpy(copy, block, b);
+    return call(IS_CRITICAL, copy, b, NONE, (const uint32_t[6]){0});
+}
