@@ -79,6 +79,10 @@ def figures(which):
             found['instructions an access: ' + name] = float(average)
             found['worst step: ' + name] = int(worst)
             found['stack seen: ' + name] = int(seen)
+        linked(target, work + '/one_byte', HERE + '/one_byte.c', archive)
+        for line in run(HERE + '/run', work + '/one_byte', COUNT='1').splitlines():
+            name, taken = line.split('\t')
+            found['from STAR2 to STOP of one byte: ' + name] = int(taken)
     return found, helpers(archive)
 
 
