@@ -28,7 +28,8 @@
  *
  * The functions keep nothing between calls, take no locks and allocate nothing.
  *
- * The archive links into x86-64 programs only today. Nothing checks this header against the library's source but the test in tests/c.
+ * docs/FIRMWARE.md says which archive links into which chip's programs. Nothing checks this header against the library's source but the test in
+ * tests/c, and that its functions and their parameters are those of the compiled module (rv32/to32.py).
  */
 #ifndef CH32_I2C_H
 #define CH32_I2C_H
