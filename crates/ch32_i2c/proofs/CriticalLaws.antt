@@ -14,7 +14,7 @@ use Rattle.master.specs.declared.stage.Stage.{Stage}
 use Rattle.master.specs.declared.state.State.{State}
 use Rattle.stage_numbers.specs.MasterStage.{addressStageNumber, addressStageOf, readStageNumber, readStageOf, stopForNumber, stopForOf, halfNumber, halfOf, stageOf, isStage}
 use Rattle.stage_numbers.proofs.Bytes.{bytes}
-use Rattle.stage_numbers.proofs.Compared.{itself, turned, joined}
+use Rattle.stage_numbers.proofs.Compared.{itself, turned, joined, with-true}
 use Rattle.stage_numbers.proofs.MasterStageRanges.{half-range}
 use Rattle.images.specs.declared.master_image.MasterFound.the-variants.{At, Nothing}
 use Rattle.images.specs.Numbers.{flagAt, isEnding}
@@ -101,13 +101,18 @@ pub no-block : (b : List ℕ) → (length b ≡ blockSize → ⊥) → 0 ≡ cri
 unfolding critical
 no-block b e = rw (ne-eqb (length b) 32 e)
 
--- by the three tests
-module _ (b : List ℕ) (size : length b ≡ blockSize) (call reading section : Bool)
-    (ec : call ≡ isCallOf (getD b 0 0) b) (er : reading ≡ flagAt 1 (getD b 6 0))
+-- by direction and stage, and then by the other numbers
+module _ (b : List ℕ) (size : length b ≡ blockSize) (reading section : Bool) (er : reading ≡ flagAt 1 (getD b 6 0))
     (es : section ≡ isStage (getD b 3 0) (getD b 4 0) (getD b 5 0) && inSection (stageOf (getD b 3 0) (getD b 4 0) (getD b 5 0))) where
-  tested : (t : Bool) → call && (reading && section) ≡ t → isCriticalIn (masterIn (fieldsOf b)) ≡ t
-  tested t e = sym (block-critical b) ∙ rw (sym ec, sym er, sym es) e
+  shown : (t : Bool) → isCallOf (getD b 0 0) b && (reading && section) ≡ t → isCriticalIn (masterIn (fieldsOf b)) ≡ t
+  shown t e = sym (block-critical b) ∙ rw (sym er, sym es) e
 
-  pub told : (t : Bool) → call && (reading && section) ≡ t → cond t 1 0 ≡ critical b
+  told : (t : Bool) → isCallOf (getD b 0 0) b && (reading && section) ≡ t → cond t 1 0 ≡ critical b
   unfolding critical
-  told t e = rw (eq-eqb (length b) 32 size, tested t e)
+  told t e = rw (eq-eqb (length b) 32 size, shown t e)
+
+  pub told-inside : (t : Bool) → reading && section ≡ true → isCallOf (getD b 0 0) b ≡ t → cond t 1 0 ≡ critical b
+  told-inside t inside call = told t (rw (inside, call) (with-true t))
+
+  pub told-outside : reading && section ≡ false → 0 ≡ critical b
+  told-outside out = told false (sym (none (isCallOf (getD b 0 0) b) (reading && section) out))
