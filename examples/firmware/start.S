@@ -42,7 +42,10 @@ home:
     .option pop
     la sp, stack_top
     la t0, vectors + 1
+    .option push
+    .option arch, +zicsr
     csrw mtvec, t0
+    .option pop
     /* initialised data from flash to RAM */
     la a0, data_in_flash
     la a1, data_start
