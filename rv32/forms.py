@@ -1,4 +1,7 @@
-"""The lines that the text of the kept module may have. Any other is refused: the kit then lowers otherwise than was looked at here."""
+"""The lines that the text of the kept module may have. Any other is refused: the kit then lowers otherwise than was looked at here.
+
+A line that is plain arithmetic on numbers may be added without more ado; one that makes, compares or hands on pointers has to be thought of in pointers.py too.
+Nothing cuts a number to 32 bits, so no length is cut."""
 import re
 import sys
 

@@ -1,14 +1,18 @@
-"""pointers.py MODULE.ll: that no memory of the kept module is used both as a pointer and as a number.
+"""pointers.py MODULE.ll: that the kept module may be compiled with pointers of 4 bytes.
 
-With 32-bit pointers a pointer fills 4 of the 8 bytes that the module leaves for it. That is harmless as long as nobody reads or writes these 8 bytes as a
-number. Each place (a local variable's or parameter's bytes) gets the types by which it is read or written; a copy and a call make two places one.
-Order and paths are not looked at, so what is found may be harmless, but what is not found is not there. Also: no recursion, and through pointers
-that were loaded from memory only single bytes are read and written."""
+- A pointer then fills 4 of the 8 bytes that the module leaves for it. That is harmless as long as nobody reads or writes these 8 bytes as a number. Each place
+  (a local variable's or parameter's bytes) gets the types by which it is read or written; a copy and a call make two places one.
+- A local variable that is a pointer has 4 bytes and no more: no copy, and no function that gets its address, may go beyond.
+- Through pointers that were loaded from memory only single bytes are read and written. No function comes back to itself.
+
+Order and paths are not looked at, so what is found may be harmless, but what is not found is not there."""
+import re
 from collections import defaultdict
 
 from forms import Refused, lines, run
 
-WIDTH = {'i1': 1, 'i8': 1, 'i16': 2, 'i32': 4, 'i64': 8, 'ptr': 8}
+WIDTH = {'i1': 1, 'i8': 1, 'i16': 2, 'i32': 4, 'i64': 8, 'ptr': 8}  # what the module leaves
+WIDTH_32 = {**WIDTH, 'ptr': 4}  # what the target takes
 LOADED = 'loaded'  # where a pointer leads that was loaded from memory
 
 
@@ -17,13 +21,20 @@ class Module:
         self.types = defaultdict(lambda: defaultdict(set))  # object -> offset -> types
         self.same = []  # (object, offset, object, offset, length or None)
         self.stored = set()  # objects whose address is stored in memory
+        self.sizes = {}  # of local variables, on the target
+        self.used = defaultdict(int)  # object -> how far into it is read or written, on the target
         self.calls = {}
 
     def use(self, place, kind, number):
         if place[0] != LOADED:
             self.types[place[0]][place[1]].add(kind)
+            self.reach(place, WIDTH_32[kind])
         elif kind != 'i8':
             raise Refused('line %d: %s through a loaded pointer' % (number, kind))
+
+
+    def reach(self, place, length):
+        self.used[place[0]] = max(self.used[place[0]], place[1] + length)
 
 
 class Places(dict):
@@ -43,6 +54,8 @@ def read(path):
             where = Places((p.split()[-1], ((function, p.split()[-1]), 0)) for p in match['parameters'].split(', ') if p.startswith('ptr'))
         elif kind == 'local':
             where[match['to']] = ((function, match['to']), 0)
+            size = re.search(r'alloca (?:\[(\d+) x i8\]|(\w+))', text)
+            m.sizes[function, match['to']] = int(size[1]) if size[1] else WIDTH_32[size[2]]
         elif kind == 'place':
             base, offset = where[match['of']]
             where[match['to']] = (base, offset + int(match['by']) if base != LOADED else 0)
@@ -63,6 +76,8 @@ def read(path):
             if LOADED in (into[0], of[0]):
                 raise Refused('line %d: a copy through a loaded pointer: %s' % (number, text))
             m.same.append((*into, *of, int(match['length'])))
+            m.reach(into, int(match['length']))
+            m.reach(of, int(match['length']))
         elif kind == 'call':
             m.calls[function].add(match['name'])
             for at, argument in enumerate(a for a in match['arguments'].split(', ') if a):
@@ -74,7 +89,7 @@ def read(path):
 
 
 def join(m):
-    """Types go over copies and calls, both ways, and stored addresses over calls, until nothing changes."""
+    """Types go over copies and calls, both ways, stored addresses over calls, and how far is read from a parameter to what is lent, until nothing changes."""
     changed = True
     while changed:
         changed = False
@@ -83,6 +98,9 @@ def join(m):
                 continue
             if length is None and len({a, b} & m.stored) == 1:
                 m.stored |= {a, b}
+                changed = True
+            if length is None and m.used[b] < j + m.used[a]:
+                m.used[b] = j + m.used[a]
                 changed = True
             for x, xi, y, yj in ((a, i, b, j), (b, j, a, i)):
                 for offset, types in list(m.types[x].items()):
@@ -116,6 +134,12 @@ def check_places(m):
     return pointers
 
 
+def check_sizes(m):
+    for place, size in m.sizes.items():
+        if m.used[place] > size:
+            raise Refused('%s %s: has %d bytes on the target, and %d are used' % (*place, size, m.used[place]))
+
+
 def check_calls(m):
     """The deepest chain; a function that comes back to itself is refused."""
     depths = {}
@@ -136,6 +160,7 @@ def main(path):
     m = read(path)
     join(m)
     check_loaded(m)
+    check_sizes(m)
     print('%d places that hold pointers, 0 used as numbers too; %d functions, deepest chain %d' % (check_places(m), len(m.calls), check_calls(m)))
 
 

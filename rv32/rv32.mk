@@ -18,7 +18,7 @@ thumb: $(call archives,$(THUMB_TARGETS))
 $(MODULE_TEXT): $(CH32_ARCHIVE)
 	@$$(rv32/kit)/clang -S -emit-llvm -Xclang -disable-llvm-passes -x ir $(MODULE)/module.bc -o $@
 
-# What the change of the text rests on: the module is what was proved, and no memory is used both as a pointer and as a number.
+# What the change of the text rests on: the module is what was proved, and may be compiled with pointers of 4 bytes.
 $(MODULE_CHECKED): $(MODULE_TEXT) rv32/same_code rv32/object_here rv32/pointers.py rv32/forms.py
 	@rv32/same_code $(MODULE_TEXT) $(MODULE)/words $(CH32_ARCHIVE)
 	@python3 -B rv32/pointers.py $(MODULE_TEXT)
