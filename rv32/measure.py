@@ -33,7 +33,7 @@ def static_ram(archive):
     return int(data) + int(bss)
 
 
-def helpers(archive):
+def from_outside(archive):
     """Functions that the archive needs from outside."""
     return sorted(re.findall(r' U (\w+)', run('riscv64-unknown-elf-nm', '-u', archive)))
 
@@ -83,7 +83,7 @@ def figures(which):
         for line in run(HERE + '/run', work + '/one_byte', COUNT='1').splitlines():
             name, taken = line.split('\t')
             found['from STAR2 to STOP of one byte: ' + name] = int(taken)
-    return found, helpers(archive)
+    return found, from_outside(archive)
 
 
 def shown(value):
