@@ -44,7 +44,7 @@ rv32-test: rv32 $(C_OUT)/test_ch32_i2c
 	@rv32/test
 
 # The comparison with the Rust, which runs on x86-64, and the library on RV32: a program that has the library's functions as calls through a mailbox.
-# RV32_CALLS of each entry on each of four chips.
+# RV32_CALLS of each entry on each of four chips. Another archive: RV32_LIB, with MARCH and MABI in the environment for another core.
 RV32_CALLS ?= 25000
 RV32_LIB ?= $(RV32)/rv32imac/libch32_i2c_fast.a
 $(RV32)/mailbox.a: rv32/mailbox_host.c rv32/mailbox.h include/ch32_i2c.h
