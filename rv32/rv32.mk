@@ -8,7 +8,7 @@ THUMB_TARGETS = cortex-m3
 VARIANTS = fast small
 archives = $(foreach t,$(1),$(foreach v,$(VARIANTS),$(RV32)/$(t)/libch32_i2c_$(v).a))
 
-.PHONY: lib-fast rv32 thumb rv32-check rv32-test rv32-compare rv32-courses rv32-faults rv32-measure rv32-figures
+.PHONY: lib-fast rv32 thumb rv32-check rv32-test rv32-compare rv32-compare-now rv32-courses rv32-faults rv32-faults-now rv32-measure rv32-figures
 
 FIRMWARE = target/firmware/ch32v203c8.elf target/firmware/ch32v003.elf
 
@@ -55,15 +55,19 @@ $(RV32)/mailbox.a: rv32/mailbox_host.c rv32/mailbox.h include/ch32_i2c.h
 $(RV32)/compare: $(ORACLE)/liboracle.rlib $(CHIP_LIBS) $(ORACLE)/as_the_rust.o $(RV32)/mailbox.a $(wildcard oracle/program/*.rs)
 	@$(BIN) -C link-arg=$(RV32)/mailbox.a --crate-name compare -o $@ oracle/program/compare.rs
 
-rv32-compare: rv32 $(RV32)/compare rv32-courses
+rv32-compare rv32-faults:
+	@missing=$$(rv32/missing $(RUSTC)); if [ -n "$$missing" ]; then echo "RV32: NOT COMPARED, missing $$missing"; else $(MAKE) --no-print-directory $@-now; fi
+
+# The calls that are measured, rv32/courses.h, have to be those of `make speed`; `make rv32-courses` writes them anew.
+rv32-compare-now: rv32 $(RV32)/compare $(ORACLE)/speed
+	@$(ORACLE)/speed courses | cmp - rv32/courses.h
 	@rv32/compare $(RV32)/compare $(RV32_LIB) $(SEED) $(RV32_CALLS)
 
-# rv32/courses.h is what `make speed` runs.
 rv32-courses: $(ORACLE)/speed
-	@$(ORACLE)/speed courses | cmp - rv32/courses.h
+	@$(ORACLE)/speed courses > $(RV32)/courses.h && cp $(RV32)/courses.h rv32/courses.h
 
 # Faults around the library on RV32 have to be found.
-rv32-faults: rv32 $(RV32)/compare
+rv32-faults-now: rv32 $(RV32)/compare
 	@rv32/find_faults $(RV32)/compare $(RV32_LIB)
 
 # Flash, stack and instructions, held to rv32/figures.txt. `make rv32-figures` writes that file anew.
