@@ -8,3 +8,4 @@ test:
 include c.mk
 include bench.mk
 include oracle/oracle.mk
+include rv32/rv32.mk

@@ -1,6 +1,7 @@
 /* What the driver does, seen on the wire: a simulated peripheral with an EEPROM at 0x50 and a temperature sensor at 0x48 behind it.
  * Usage: demo FILE.vcd [-v]. With -v each access is printed too. */
 #include "ch32_i2c_blocking.h"
+#include "port.h"
 #include "sim.h"
 
 #include <stdio.h>
@@ -8,55 +9,11 @@
 
 #define EEPROM 0x50
 #define SENSOR 0x48
-#define TIMEOUT 2000000u /* 2 ms for each call */
 
 static struct eeprom eeprom;
 static struct sensor sensor;
-static int verbose, wrong;
-static unsigned long accesses;
-
-/* ---- the port ---- */
-
-static const char *const names[] = {"CTLR1", "CTLR2", "OADDR1", "OADDR2", "DATAR", "STAR1", "STAR2", "CKCFGR", "RTR"};
-
-static uint16_t read_register(void *registers, unsigned number)
-{
-    uint16_t value = sim_read(registers, number);
-    accesses++;
-    if (verbose)
-        printf("     r,%s,%04x\n", names[number], value);
-    return value;
-}
-
-static void write_register(void *registers, unsigned number, uint16_t value)
-{
-    accesses++;
-    if (verbose)
-        printf("     w,%s,%04x\n", names[number], value);
-    sim_write(registers, number, value);
-}
-
-static uint64_t deadline;
-
-static void start_clock(void *clock)
-{
-    (void)clock;
-    deadline = sim_now() + TIMEOUT;
-}
-
-static int is_late(void *clock)
-{
-    int late;
-    (void)clock;
-    accesses++;
-    sim_wait(SIM_ACCESS);
-    late = sim_now() > deadline;
-    if (verbose)
-        printf("     c,clock,%04x\n", late);
-    return late;
-}
-
-static const struct ch32_i2c_port port = {CH32_I2C_CHIP_V3, NULL, read_register, write_register, NULL, start_clock, is_late};
+static struct ch32_i2c_port port;
+static int wrong;
 
 /* ---- what is printed ---- */
 
@@ -67,7 +24,7 @@ static void call(const char *what)
 {
     printf("\n%2u. %s\n", ++calls, what);
     call_started = sim_now();
-    accesses = 0;
+    port_accesses = 0;
 }
 
 /* What was on the wire, the 50 us after the call included; then the end, which is to be `wanted`. */
@@ -88,7 +45,7 @@ static void result(unsigned end, unsigned wanted)
     }
     if (column)
         printf("\n");
-    printf("    end    %u, %s; %lu accesses in %llu us\n", end, end <= 6 ? ends[end] : "refused", accesses,
+    printf("    end    %u, %s; %lu accesses in %llu us\n", end, end <= 6 ? ends[end] : "refused", port_accesses,
            (unsigned long long)time / 1000);
     if (end != wanted) {
         printf("    WRONG: %u was expected\n", wanted);
@@ -235,7 +192,7 @@ int main(int count, char **arguments)
         fprintf(stderr, "usage: demo FILE.vcd [-v]\n");
         return 2;
     }
-    verbose = count > 2 && strcmp(arguments[2], "-v") == 0;
+    port = port_make(count > 2 && strcmp(arguments[2], "-v") == 0);
     vcd_open(arguments[1]);
     eeprom_make(&eeprom, EEPROM);
     sensor_make(&sensor, SENSOR, 23.5);

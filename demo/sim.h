@@ -44,7 +44,9 @@ void vcd_close(uint64_t time);
 
 /* ---- the peripheral (sim.c) ---- */
 
+#ifndef SIM_INPUT
 #define SIM_INPUT 36000000u /* its clock, in hertz */
+#endif
 #define SIM_ACCESS 1500u    /* what an access or a question to the clock takes */
 
 void sim_attach(struct device *d);

@@ -28,7 +28,8 @@
  *
  * The functions keep nothing between calls, take no locks and allocate nothing.
  *
- * The archive links into x86-64 programs only today. Nothing checks this header against the library's source but the test in tests/c.
+ * docs/FIRMWARE.md says which archive links into which chip's programs. Nothing checks this header against the library's source but the test in
+ * tests/c, and that its functions and their parameters are those of the compiled module (rv32/to32.py).
  */
 #ifndef CH32_I2C_H
 #define CH32_I2C_H
@@ -225,6 +226,11 @@ uint64_t ch32_i2c_respond_to_write_step(uint8_t *block, size_t block_length, uin
 /* Sends until the master has enough; ends with the number of bytes left over. Past the data 00 is sent. Refusals: 16 (chip), 8. */
 uint64_t ch32_i2c_respond_to_read_begin(uint8_t *block, size_t block_length, uint8_t chip, const uint8_t *data, size_t data_length);
 uint64_t ch32_i2c_respond_to_read_step(uint8_t *block, size_t block_length, const uint8_t *data, size_t data_length, uint16_t answer);
+
+/* Whether interrupts are to be held off for the access that was handed out last: 1 if it lies in one of the two sections of a read in which ch32-hal
+ * holds them off (behind ADDR, and around the last two bytes), else 0. 0 also for a block that is no transfer's, has ended, or is not of 32
+ * bytes. To be asked between begin or step and the access. */
+uint64_t ch32_i2c_is_critical(const uint8_t *block, size_t block_length);
 
 #ifdef __cplusplus
 }

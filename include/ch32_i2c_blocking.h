@@ -26,6 +26,11 @@ struct ch32_i2c_port {
     void (*start_clock)(void *clock);
     /* Whether the deadline has passed. Null: never, so that a call on a bus that hangs never ends. */
     int (*is_late)(void *clock);
+    void *interrupts; /* handed to hold and release */
+    /* Called around the two places of a read where ch32-hal holds interrupts off: `hold` before the first access, `release` behind the last. Both
+     * or none: null where nothing is held. */
+    void (*hold)(void *interrupts);
+    void (*release)(void *interrupts);
 };
 
 /* A peripheral in memory: register n lies 4n bytes from the base and is read and written as 16 bits. */
@@ -39,7 +44,7 @@ static inline void ch32_i2c_mapped_write(void *registers, unsigned number, uint1
     ((volatile uint16_t *)registers)[2 * number] = value;
 }
 
-/* Such a port, still without a clock. */
+/* Such a port, still without a clock and without a hold. */
 static inline struct ch32_i2c_port ch32_i2c_mapped_port(uint8_t chip, uintptr_t base)
 {
     struct ch32_i2c_port port;
@@ -50,6 +55,9 @@ static inline struct ch32_i2c_port ch32_i2c_mapped_port(uint8_t chip, uintptr_t 
     port.clock = NULL;
     port.start_clock = NULL;
     port.is_late = NULL;
+    port.interrupts = NULL;
+    port.hold = NULL;
+    port.release = NULL;
     return port;
 }
 
@@ -91,11 +99,25 @@ struct ch32_i2c_lent {
 
 typedef uint64_t (*ch32_i2c_step)(struct ch32_i2c_lent *lent, uint16_t answer);
 
+/* Holds interrupts off, or no longer, as the access asks that the block owes. Gives whether they are held. */
+static inline int ch32_i2c_hold_or_release(const struct ch32_i2c_port *port, const uint8_t *block, int held)
+{
+    const int wanted = port->hold && port->release && ch32_i2c_is_critical(block, CH32_I2C_BLOCK_SIZE) != 0;
+    if (wanted && !held)
+        port->hold(port->interrupts);
+    if (held && !wanted)
+        port->release(port->interrupts);
+    return wanted;
+}
+
 /* Does what `next` says and hands the answer to the step, until the end. */
 static inline uint64_t ch32_i2c_carry_out(const struct ch32_i2c_port *port, uint64_t next, ch32_i2c_step step, struct ch32_i2c_lent *lent)
 {
+    int held = 0;
     for (;;) {
         uint16_t answer = 0;
+        if (ch32_i2c_kind_of(next) != CH32_I2C_KIND_END)
+            held = ch32_i2c_hold_or_release(port, lent->block, held);
         switch (ch32_i2c_kind_of(next)) {
         case CH32_I2C_KIND_READ:
             answer = port->read_register(port->registers, ch32_i2c_register_of(next));
@@ -107,6 +129,8 @@ static inline uint64_t ch32_i2c_carry_out(const struct ch32_i2c_port *port, uint
             answer = port->is_late && port->is_late(port->clock) ? 1 : 0;
             break;
         default:
+            if (held)
+                port->release(port->interrupts);
             return next;
         }
         next = step(lent, answer);

@@ -27,6 +27,8 @@ $(ORACLE)/librecord.rlib: oracle/record/lib.rs oracle/record/call.rs
 	@mkdir -p $(ORACLE)
 	$(RLIB) --crate-name record $<
 
+$(ORACLE)/libcritical_section.rlib: $(ORACLE)/librecord.rlib
+$(ORACLE)/libcritical_section.rlib: SHIM_EXTERN = --extern record=$(ORACLE)/librecord.rlib
 $(ORACLE)/libembedded_hal_async.rlib: $(ORACLE)/libembedded_hal.rlib
 $(ORACLE)/libembedded_hal_async.rlib: SHIM_EXTERN = --extern embedded_hal=$(ORACLE)/libembedded_hal.rlib
 
@@ -82,7 +84,7 @@ $(FAULT_RESULTS): $(ORACLE)/faults/%/result: oracle/faults/%.patch $(HAL) $(ORAC
 # Faults in the library, by functions that the linker puts before its own.
 LIBRARY_FAULTS = $(shell sed -n 's/^\#ifdef FAULT_//p' oracle/faults/library.c)
 LIBRARY_RESULTS = $(LIBRARY_FAULTS:%=$(ORACLE)/library-faults/%/result)
-WRAPPED = init_begin write_begin write_step read_step transaction_step listen_step
+WRAPPED = init_begin write_begin write_step read_step transaction_step listen_step is_critical
 WRAPS = $(WRAPPED:%=-C link-arg=-Wl,--wrap=ch32_i2c_%)
 
 $(LIBRARY_RESULTS): $(ORACLE)/library-faults/%/result: oracle/faults/library.c $(ORACLE)/liboracle.rlib $(CHIP_LIBS) $(ORACLE)/as_the_rust.o $(CH32_LIB)

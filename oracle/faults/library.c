@@ -10,6 +10,7 @@ uint64_t __real_ch32_i2c_read_step(uint8_t *, size_t, uint8_t *, size_t, uint16_
 uint64_t __real_ch32_i2c_transaction_step(uint8_t *, size_t, const uint8_t *, size_t, const uint8_t *, size_t, uint8_t *, size_t, uint16_t);
 uint64_t ch32_i2c_init_step(uint8_t *, size_t, uint16_t);
 uint64_t __real_ch32_i2c_listen_step(uint8_t *, size_t, uint16_t);
+uint64_t __real_ch32_i2c_is_critical(const uint8_t *, size_t);
 
 #define REFUSED_STEP ((uint64_t)15 << 8)
 
@@ -107,4 +108,18 @@ uint64_t __wrap_ch32_i2c_listen_step(uint8_t *block, size_t n, uint16_t answer)
         next = ch32_i2c_init_step(block, n, answer);
 #endif
     return next;
+}
+
+uint64_t __wrap_ch32_i2c_is_critical(const uint8_t *block, size_t n)
+{
+    uint64_t critical = __real_ch32_i2c_is_critical(block, n);
+#ifdef FAULT_hold_ends_before_the_last_byte
+    if (n == 32 && block[3] == 7 && block[5] == 11)
+        critical = 0;
+#endif
+#ifdef FAULT_hold_behind_a_write_address
+    if (n == 32 && block[3] == 4 && block[5] == 3 && block[0] > 1 && block[0] < 6)
+        critical = 1;
+#endif
+    return critical;
 }

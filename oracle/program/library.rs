@@ -1,4 +1,4 @@
-//! The C library's eighteen functions.
+//! The C library's functions.
 
 use record::{Call, Entry};
 
@@ -29,6 +29,16 @@ declare! {
     ch32_i2c_respond_to_write_step(buffer: *mut u8, buffer_length: usize, answer: u16);
     ch32_i2c_respond_to_read_begin(chip: u8, data: *const u8, data_length: usize);
     ch32_i2c_respond_to_read_step(data: *const u8, data_length: usize, answer: u16);
+}
+
+extern "C" {
+    fn ch32_i2c_is_critical(block: *const u8, block_length: usize) -> u64;
+}
+
+/// Whether interrupts are to be held off for the access that the block owes: 0 or 1.
+pub fn is_critical(block: &[u8]) -> u64 {
+    // SAFETY: the pointer goes with its length.
+    unsafe { ch32_i2c_is_critical(block.as_ptr(), block.len()) }
 }
 
 /// Begins a call with the parameters of `call` and the bytes lent.

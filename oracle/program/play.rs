@@ -90,6 +90,7 @@ impl Player {
         if let Some(end) = outcome.end {
             let last = ends::of_call(call, last);
             check(last == end as u64, || differs("the end", end as u64, last))?;
+            self.check_critical(0, || "the end".into())?;
             for _ in 0..2 {
                 self.refused_step(call.entry, "a step after the end", random)?;
             }
@@ -118,6 +119,10 @@ impl Player {
             check(number == *access as u64, || {
                 differs(&format!("access {place}"), *access as u64, number)
             })?;
+            // A stored call has no such note.
+            if let Some(held) = outcome.record.held.get(place) {
+                self.check_critical(*held as u64, || format!("access {place}, {}", number_text(number)))?;
+            }
             if place == disturb_at {
                 self.disturb(call, random)?;
             }
@@ -142,6 +147,16 @@ impl Player {
         for lent in [&mut self.block, &mut self.list, &mut self.written, &mut self.read] {
             lent.keep();
         }
+    }
+
+    /// What the library says of interrupts is what the Rust did; and it changes nothing.
+    fn check_critical(&mut self, held: u64, what: impl FnOnce() -> String) -> Result<(), String> {
+        self.block.keep();
+        let critical = library::is_critical(self.block.part());
+        check(self.block.is_kept(), || "is_critical changed the block".into())?;
+        check(critical == held, || {
+            format!("{}: the Rust holds interrupts off: {held}, the C library says {critical}", what())
+        })
     }
 
     fn check_kept(&self, what: &str) -> Result<(), String> {
@@ -214,6 +229,7 @@ impl Player {
         let number = library::step(call.entry, &mut block, list, written, read, random.word());
         check(number == REFUSED_STEP, || differs(what, REFUSED_STEP, number))?;
         check(block == bad, || format!("{what} changed the block"))?;
+        check(library::is_critical(&bad) == 0, || format!("{what} is critical"))?;
         self.check_kept(what)
     }
 

@@ -2,6 +2,7 @@
 //!
 //!     speed    the table, in markdown; instructions are counted by callgrind
 //!     speed run SIDE CALL TIMES    one call again and again, for callgrind
+//!     speed courses    the calls and their answers as a C header, for the same count on RV32 (rv32/courses.h)
 //!
 //! Counted are the instructions inside the driver: the C library's functions, or the Rust's without the recording.
 
@@ -228,17 +229,56 @@ fn table() {
     }
 }
 
+/// The numbers of a C array.
+fn c_array(kind: &str, name: &str, numbers: &[u16]) {
+    println!("static const {kind} {name}[] = {{");
+    for row in numbers.chunks(20) {
+        let row: Vec<String> = row.iter().map(u16::to_string).collect();
+        println!("    {},", row.join(", "));
+    }
+    println!("}};");
+}
+
+/// The calls as a C header.
+fn c_header() {
+    println!("/* Made by `make rv32-courses`: the calls of docs/SPEED.md, with the answers that `make speed` gives them. */");
+    for (index, course) in courses().iter().enumerate() {
+        let list: Vec<u16> = course.call.list.iter().map(|byte| *byte as u16).collect();
+        if !list.is_empty() {
+            c_array("uint8_t", &format!("list_{index}"), &list);
+        }
+        c_array("uint16_t", &format!("answers_{index}"), &course.answers);
+    }
+    println!("static const struct course courses[] = {{");
+    for (index, course) in courses().iter().enumerate() {
+        let call = &course.call;
+        println!(
+            "    {{\"{}\", {}, {}, {}, {}, {}, {}, {}, answers_{index}}},",
+            course.name,
+            call.entry.name().to_uppercase(),
+            call.address,
+            if call.list.is_empty() { "NULL".into() } else { format!("list_{index}") },
+            call.list.len(),
+            call.written.len(),
+            call.read.len(),
+            course.accesses.len()
+        );
+    }
+    println!("}};");
+}
+
 fn main() {
     rust::use_chips(chips::CHIPS);
     let arguments: Vec<String> = std::env::args().skip(1).collect();
     let arguments: Vec<&str> = arguments.iter().map(String::as_str).collect();
     match arguments[..] {
         [] => table(),
+        ["courses"] => c_header(),
         ["run", side, course, times] => {
             let side = side_named(side).expect("rust or library");
             let course: usize = course.parse().expect("the number of a call");
             courses()[course].run(side, times.parse().expect("how many times"));
         }
-        _ => println!("speed | speed run SIDE CALL TIMES"),
+        _ => println!("speed | speed run SIDE CALL TIMES | speed courses"),
     }
 }

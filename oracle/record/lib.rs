@@ -80,10 +80,12 @@ impl Answers for Given {
     }
 }
 
-/// All accesses, the owed one included; the answers to reads and questions; the place of each access.
+/// All accesses, the owed one included; whether interrupts were held off at each; the answers to reads and questions;
+/// the place of each access.
 #[derive(Default)]
 pub struct Record {
     pub accesses: Vec<u32>,
+    pub held: Vec<bool>,
     pub answers: Vec<u16>,
     pub places: Vec<Place>,
     pub open: bool,
@@ -93,6 +95,7 @@ struct Recorder {
     record: Record,
     source: Box<dyn Answers>,
     with_places: bool,
+    held: bool,
 }
 
 thread_local! {
@@ -100,6 +103,7 @@ thread_local! {
         record: Record::default(),
         source: Box::new(NoAnswers),
         with_places: false,
+        held: false,
     });
 }
 
@@ -109,6 +113,7 @@ pub struct OutOfAnswers;
 /// Begins a record. `record` is emptied and reused.
 pub fn start(mut record: Record, source: Box<dyn Answers>, with_places: bool) {
     record.accesses.clear();
+    record.held.clear();
     record.answers.clear();
     record.places.clear();
     record.open = false;
@@ -117,8 +122,14 @@ pub fn start(mut record: Record, source: Box<dyn Answers>, with_places: bool) {
             record,
             source,
             with_places,
+            held: false,
         }
     })
+}
+
+/// From here on interrupts are held off, or no longer.
+pub fn hold(held: bool) {
+    RECORDER.with_borrow_mut(|r| r.held = held)
 }
 
 /// Hands back the record and the source of its answers.
@@ -138,6 +149,7 @@ fn place(caller: &Location<'_>) -> Place {
 impl Recorder {
     fn note(&mut self, access: u32, caller: &Location<'_>) {
         self.record.accesses.push(access);
+        self.record.held.push(self.held);
         if self.with_places {
             self.record.places.push(place(caller));
         }

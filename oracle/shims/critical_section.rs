@@ -1,7 +1,10 @@
-//! `critical_section`: the recording registers know no interrupts, so the body just runs.
+//! `critical_section`: the record notes which accesses are made inside.
 
 pub struct CriticalSection;
 
 pub fn with<R>(body: impl FnOnce(CriticalSection) -> R) -> R {
-    body(CriticalSection)
+    record::hold(true);
+    let result = body(CriticalSection);
+    record::hold(false);
+    result
 }

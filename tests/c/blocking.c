@@ -7,11 +7,13 @@
 
 #define MOST 400
 
-/* A port that answers by a row of its own and keeps what it was asked. */
+/* A port that answers by a row of its own and keeps what it was asked, and whether interrupts were held off. */
 static struct {
     uint16_t answers[MOST];
     uint64_t record[MOST];
+    uint8_t held[MOST];
     unsigned count, starts;
+    int holding;
 } seen;
 
 static uint16_t answer_to(uint64_t next)
@@ -20,6 +22,7 @@ static uint16_t answer_to(uint64_t next)
     if (i >= MOST)
         return 0xffff; /* errors and a late clock: the call ends */
     seen.record[i] = next;
+    seen.held[i] = (uint8_t)seen.holding;
     return seen.answers[i];
 }
 
@@ -47,16 +50,45 @@ static int is_late(void *clock)
     return answer_to(CH32_I2C_KIND_CLOCK);
 }
 
-static struct call c, by_hand;
-static struct ch32_i2c_port port = {0, &seen, read_register, write_register, &seen.starts, start_clock, is_late};
+static void hold(void *interrupts)
+{
+    check(interrupts == &seen.holding && !seen.holding, "interrupts are held off once");
+    seen.holding = 1;
+}
 
-/* The call by hand, with answers that are kept for the port. */
-static uint64_t run_by_hand(uint64_t *record, unsigned *count)
+static void release(void *interrupts)
+{
+    check(interrupts == &seen.holding && seen.holding, "held interrupts are released");
+    seen.holding = 0;
+}
+
+static struct call c, by_hand;
+static struct ch32_i2c_port port;
+
+/* With hooks for interrupts, or with one of them, or none. */
+static void make_port(unsigned hooks)
+{
+    static const struct ch32_i2c_port empty = {0};
+    port = empty;
+    port.registers = &seen;
+    port.read_register = read_register;
+    port.write_register = write_register;
+    port.clock = &seen.starts;
+    port.start_clock = start_clock;
+    port.is_late = is_late;
+    port.interrupts = &seen.holding;
+    port.hold = hooks & 1 ? hold : NULL;
+    port.release = hooks & 2 ? release : NULL;
+}
+
+/* The call by hand, with answers that are kept for the port; and where interrupts are to be held off. */
+static uint64_t run_by_hand(uint64_t *record, uint8_t *critical, unsigned *count)
 {
     uint64_t next = begin(&by_hand);
     unsigned i;
     for (i = 0; i < MOST && ch32_i2c_kind_of(next) != CH32_I2C_KIND_END; i++) {
         record[i] = next;
+        critical[i] = (uint8_t)ch32_i2c_is_critical(by_hand.block, by_hand.block_length);
         seen.answers[i] = some_answer(&by_hand, next);
         next = step(&by_hand, seen.answers[i]);
     }
@@ -109,8 +141,10 @@ static uint64_t run_by_header(void)
 
 static void compare(enum entry entry)
 {
+    static const uint8_t never[MOST];
     static uint64_t record[MOST];
-    unsigned count;
+    static uint8_t critical[MOST];
+    unsigned count, hooks = chance(4);
     uint64_t end;
     plain_call(&c, entry);
     c.chip = (uint8_t)chance(4);
@@ -125,12 +159,14 @@ static void compare(enum entry entry)
     c.general_call = (uint8_t)chance(2);
     c.clock_stretching = (uint8_t)chance(2);
     keep(&by_hand, &c);
-    end = run_by_hand(record, &count);
+    end = run_by_hand(record, critical, &count);
     if (ch32_i2c_kind_of(end) != CH32_I2C_KIND_END)
         return;
     seen.count = seen.starts = 0;
+    make_port(hooks);
     check(run_by_header() == end, "%s: another end", entry_names[entry]);
     check(seen.count == count && memcmp(seen.record, record, count * sizeof *record) == 0, "%s: other accesses", entry_names[entry]);
+    check(memcmp(seen.held, hooks == 3 ? critical : never, count) == 0 && !seen.holding, "%s: interrupts held off elsewhere", entry_names[entry]);
     check(seen.starts == 1, "%s: the clock is started once", entry_names[entry]);
     memcpy(c.block, by_hand.block, sizeof c.block);
     check(same_bytes(&c, &by_hand), "%s: other bytes", entry_names[entry]);

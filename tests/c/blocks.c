@@ -1,13 +1,10 @@
 /* Blocks that are no call's image, and steps at the wrong time: 15, and every lent byte as before. One refused step in eight is tried with
  * everything that it is lent in read-only memory: a store, even of the byte that is there, ends the program. */
-#define _DEFAULT_SOURCE
 #include "call.h"
+#include "read_only.h"
 
-#include <signal.h>
 #include <stdio.h>
 #include <string.h>
-#include <sys/mman.h>
-#include <unistd.h>
 
 #ifndef LAYOUT
 #define LAYOUT "layout.h"
@@ -29,22 +26,13 @@ static union {
 
 #define tried alone.call
 
-static void stored(int signal)
-{
-    static const char text[] = "FAILED a refused step stored into read-only memory\n";
-    (void)signal;
-    _exit(write(STDOUT_FILENO, text, sizeof text - 1) < 0 ? 2 : 1);
-}
-
 /* A step with everything lent in read-only memory. */
 static uint64_t read_only_step(uint16_t answer)
 {
     uint64_t next;
-    signal(SIGSEGV, stored);
-    check(mprotect(&alone, sizeof alone, PROT_READ) == 0, "no read-only memory");
+    check(read_only(&alone, sizeof alone), "no read-only memory");
     next = step(&tried, answer);
-    check(mprotect(&alone, sizeof alone, PROT_READ | PROT_WRITE) == 0, "no memory to write again");
-    signal(SIGSEGV, SIG_DFL);
+    check(writable(&alone, sizeof alone), "no memory to write again");
     return next;
 }
 

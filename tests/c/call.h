@@ -75,5 +75,6 @@ void test_ends_at_once(void);
 void test_random_calls(void);
 void test_late(void);
 void test_blocking(void);
+void test_critical(void);
 
 #endif

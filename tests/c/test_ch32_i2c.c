@@ -42,6 +42,7 @@ static const struct {
     {"calls that end at once", test_ends_at_once},
     {"random calls", test_random_calls},
     {"a late clock at any question", test_late},
+    {"where interrupts are held off", test_critical},
     {"ch32_i2c_blocking.h", test_blocking},
 };
 

@@ -1,3 +1,4 @@
+pub mod CriticalLaws
 pub mod LeavesLaws
 pub mod TransferLeaves
 pub mod InitLeaves

@@ -3,6 +3,7 @@ pub mod Init
 pub mod Transfer
 pub mod InitSlave
 pub mod Response
+pub mod Critical
 pub mod Fed
 pub mod Manual
 pub mod Demands

@@ -1,0 +1,2 @@
+# to32: an attribute that is not known
+s/^attributes #0 = { nounwind/& "frame-pointer"="all"/

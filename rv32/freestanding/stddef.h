@@ -1,0 +1,6 @@
+/* As stdint.h here. */
+#ifndef STDDEF_H
+#define STDDEF_H
+typedef __SIZE_TYPE__ size_t;
+#define NULL ((void *)0)
+#endif
