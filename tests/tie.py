@@ -10,6 +10,9 @@ CRATE = Path(__file__).resolve().parent.parent / "crates" / "ch32_i2c"
 DEMANDS = CRATE / "specs" / "Demands.antt"
 FUNCTIONS = 18
 
+# What changes nothing and is no part of a call: its whole contract.
+QUESTIONS = {"ch32_i2c_is_critical": "    ensures { λ r. ⌜ r ≡ critical (now (block .entry)) ⌝ }"}
+
 # What a call's parameters are called in entryOf.
 IN_ENTRIES = {"buffer": "r", "read": "r", "block": "b", "answer": "a", "ten_bit": "ten", "has_second": "has",
               "general_call": "general", "clock_stretching": "stretching"}
@@ -33,6 +36,10 @@ def contracts():
     for file in sorted((CRATE / "src").glob("*.rt")):
         for function in re.findall(r'#\[no_mangle\]\s*pub extern "C" fn (\w+)\((.*?)\) -> u64\n(.*?)\n\{', file.read_text(), re.S):
             name, parameters, clauses = function
+            if name in QUESTIONS:
+                if clauses != QUESTIONS[name]:
+                    raise SystemExit(f"tie: {name} has another contract than its question's")
+                continue
             clause = re.fullmatch(r"    ensures \{ λ r\. ⌜ (Leaves|LeavesBlock) \((.*)\) r (.*) ⌝ \}", clauses)
             if not clause:
                 raise SystemExit(f"tie: {name} has another contract than one `Leaves`")

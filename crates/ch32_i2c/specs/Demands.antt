@@ -1,4 +1,4 @@
--- The three demands, said of what C programs call: of blocks, lent bytes and what the eighteen functions hand out. Each exported function's
+-- The three demands, said of what C programs call: of blocks, lent bytes and what the eighteen begins and steps hand out. Each one's
 -- contract says that it returns the number of what its definition hands out, and leaves the definition's bytes (`Leaves`, specs/Left.antt).
 --
 -- Which definition each contract cites (tests/tie.py, a part of `make test`, compares this with the contracts in src/ and with `entryOf`):
