@@ -1,7 +1,7 @@
 """The lines that the text of the kept module may have. Any other is refused: the kit then lowers otherwise than was looked at here.
 
 A line that is plain arithmetic on numbers may be added without more ado; one that makes, compares or hands on pointers has to be thought of in pointers.py too.
-Nothing cuts a number to 32 bits, so no length is cut."""
+A number is made narrower by `trunc nuw` alone, which the kit writes where it is proved that nothing is cut off; so no length is cut."""
 import re
 import sys
 
@@ -39,7 +39,7 @@ FORMS = [(kind, re.compile(pattern)) for kind, pattern in [
     ('arithmetic', r'  %s = (?:add nuw|sub nuw|mul nuw|udiv|urem|and|or|xor|shl|lshr) %s %s, %s' % (V, NUMBER, OPERAND, OPERAND)),
     ('comparison', r'  %s = icmp (?:eq|ne|ult|ule) %s %s, %s' % (V, NUMBER, OPERAND, OPERAND)),
     ('wider', r'  %s = zext i(?:1|8|16|32) %s to %s' % (V, OPERAND, NUMBER)),
-    ('narrower', r'  %s = trunc nuw i(?:8|16|32|64) %s to i(?:1|8|16)' % (V, OPERAND)),
+    ('narrower', r'  %s = trunc nuw i(?:8|16|32|64) %s to i(?:1|8|16|32)' % (V, OPERAND)),
     ('branch', r'  br (?:label %s|i1 %s, label %s, label %s)' % (V, OPERAND, V, V)),
     ('switch', r'  switch %s %s, label %s \[' % (NUMBER, OPERAND, V)),
     ('case', r'    %s -?\d+, label %s|  \]' % (NUMBER, V)),
