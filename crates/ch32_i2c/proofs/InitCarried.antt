@@ -3,7 +3,7 @@
 use mathlib.Core.Path.{_≡_, refl, ap, sym, _∙_}
 use mathlib.Core.Bool.{Bool, true, false, cond}
 use mathlib.Core.List.{List, []}
-use mathlib.Core.Option.{some}
+use mathlib.Core.Option.{none, some}
 use Prim.Native.Nat.{ℕ}
 use lib.ListN.{length}
 use Rattle.access.specs.declared.ending.Error.the-variants.{InvalidState}
@@ -105,7 +105,7 @@ config-stays s x = stage-config (s .stage) s x
 
 -- a state whose configuration begin would take
 abbrev pub InitSlaveFit : InitState → Type 0
-InitSlaveFit s = slave.configFault (s .config) ≡ false
+InitSlaveFit s = slave.initRefusal (s .config) ≡ none
 
 abbrev pub initSlaveImage : InitState → List ℕ
 initSlaveImage s = bytesOf (initSlaveFields s)
@@ -117,4 +117,4 @@ initSlaveEntry ten address has second general stretching =
 pub init-slave-carries : (ten address has second general stretching : ℕ) → Carries slave.initMachine [] 0 (initSlaveEntry ten address has second general stretching) initSlaveImage InitSlaveFit
 unfolding initSlave.initSlaveStep
 init-slave-carries ten address has second general stretching =
-    lends-nothing initSlaveCall.initSlaveOn InitSlaveFit (λ s a g. ap slave.configFault (config-stays s a) ∙ g) (λ s g. ap initSlaveCall.stateIn (init-slave-held s g)) (initSlaveEntry ten address has second general stretching) (λ b r a. refl)
+    lends-nothing initSlaveCall.initSlaveOn InitSlaveFit (λ s a g. ap slave.initRefusal (config-stays s a) ∙ g) (λ s g. ap initSlaveCall.stateIn (init-slave-held s g)) (initSlaveEntry ten address has second general stretching) (λ b r a. refl)
