@@ -1,5 +1,5 @@
 -- A machine: its states, what a state needs, and how an answer moves it; what is seen of it.
-use mathlib.Core.Bool.{Bool, true, false, cond}
+use mathlib.Core.Bool.{Bool, true, false}
 use mathlib.Core.List.{List, [], _∷_}
 use mathlib.Core.Option.{none, some}
 use Prim.Native.Nat.{ℕ, _%_}
@@ -10,8 +10,6 @@ use Rattle.access.specs.declared.need.Need.the-variants as need
 use Rattle.access.specs.declared.next.Next.{Next}
 use Rattle.access.specs.declared.next.Next.the-variants as next
 use Rattle.access.specs.Program.{read, write, send, clock}
-use Rattle.access.specs.declared.ending.Error.the-variants.{InvalidState}
-use Rattle.access.specs.Endings.{failed}
 use Rattle.access.specs.Record.{Shown, noMore, event, arrival}
 
 pub record Machine : Type 1 where
@@ -73,10 +71,3 @@ isEnd (need.Send p) = false
 isEnd (need.Keep p) = false
 isEnd need.Drop = false
 isEnd (need.End e) = true
-
--- a step with an answer: where it leads, what is handed out, what the bytes read become. After the end it is refused with 15
-abbrev pub stepState : (m : Machine) → m .State → ℕ → m .State
-stepState m s a = cond (isEnd (m .need s)) s (m .move s a)
-
-abbrev pub stepNext : (m : Machine) → List ℕ → m .State → ℕ → Next
-stepNext m bytes s a = cond (isEnd (m .need s)) (next.End (failed InvalidState)) (filled bytes (m .need (m .move s a)))

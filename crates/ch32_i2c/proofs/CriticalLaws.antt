@@ -13,8 +13,8 @@ use Rattle.block.specs.Fields.{sameFields}
 use Rattle.master.specs.declared.stage.Stage.{Stage}
 use Rattle.master.specs.declared.state.State.{State}
 use Rattle.stage_numbers.specs.MasterStage.{addressStageNumber, addressStageOf, readStageNumber, readStageOf, stopForNumber, stopForOf, halfNumber, halfOf, stageOf, isStage}
-use Rattle.stage_numbers.proofs.Bytes.{bytes}
-use Rattle.stage_numbers.proofs.Compared.{itself, turned, joined, with-true}
+use Rattle.access.proofs.Bytes.{bytes}
+use Rattle.access.proofs.Compared.{itself, turned, joined, with-true}
 use Rattle.stage_numbers.proofs.MasterStageRanges.{half-range}
 use Rattle.images.specs.declared.master_image.MasterFound.the-variants.{At, Nothing}
 use Rattle.images.specs.Numbers.{flagAt, isEnding}

@@ -12,8 +12,8 @@ use Rattle.images.specs.declared.master_image.MasterFound.the-variants.{
 use Rattle.images.specs.Numbers.{isFlag, isChip, isEnding}
 use Rattle.stage_numbers.specs.MasterStage.{isStage}
 use Rattle.images.specs.MasterImage.{frameOptionsOf, kindEntry, kindOption, kindOf, isKind, masterFields, masterOf, unusedEmpty, isCall, masterIn}
-use Rattle.stage_numbers.proofs.Bytes.{bytes}
-use Rattle.stage_numbers.proofs.Compared.{turned, itself, joined, reordered}
+use Rattle.access.proofs.Bytes.{bytes}
+use Rattle.access.proofs.Compared.{turned, itself, joined, reordered}
 
 abbrev kindTest : ℕ → ℕ → Bool
 kindTest n o = (ltb 1 n && ltb n 6) && (ltb o 6 && (ltb 3 n || eqb o 0))

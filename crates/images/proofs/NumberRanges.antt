@@ -6,8 +6,8 @@ use mathlib.Core.Bool.{true, false, not, _&&_}
 use lib.Dec.{eqb, ltb}
 use Rattle.access.specs.Endings.{errorNumber, errorOf}
 use Rattle.images.specs.Numbers.{isFlag, isChip, isEnding}
-use Rattle.stage_numbers.proofs.Bytes.{bytes}
-use Rattle.stage_numbers.proofs.Compared.{turned, itself}
+use Rattle.access.proofs.Bytes.{bytes}
+use Rattle.access.proofs.Compared.{turned, itself}
 
 pub flag-range : (n : ℕ) → n < 256 → isFlag n ≡ ltb n 2
 unfolding isFlag

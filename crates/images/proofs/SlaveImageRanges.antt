@@ -10,8 +10,8 @@ use Rattle.images.specs.declared.slave_image.SlaveFound.the-variants.{At
 use Rattle.images.specs.Numbers.{isChip, isEnding}
 use Rattle.stage_numbers.specs.SlaveStage.{isStage}
 use Rattle.images.specs.SlaveImage.{isKind, slaveFields, slaveOf, unusedEmpty, isCall, slaveIn}
-use Rattle.stage_numbers.proofs.Bytes.{bytes}
-use Rattle.stage_numbers.proofs.Compared.{turned, itself, with-true, reordered}
+use Rattle.access.proofs.Bytes.{bytes}
+use Rattle.access.proofs.Compared.{turned, itself, with-true, reordered}
 
 pub kind-range : (n : ℕ) → n < 256 → isKind n ≡ ltb 6 n && ltb n 10
 unfolding isKind

@@ -14,7 +14,7 @@ use Rattle.block.specs.Bytes32.{fieldsOf, bytesOf, Bytes}
 use Rattle.block.proofs.Codec.{same-said, bytes-back}
 use Rattle.images.specs.Numbers.{isFlag, isChip, isEnding}
 use Rattle.images.specs.MasterImage.{kindEntry, kindOption, kindOf, isKind, masterOf, unusedEmpty, isCall}
-use Rattle.stage_numbers.proofs.Compared.{turned, itself, joined, reordered}
+use Rattle.access.proofs.Compared.{turned, itself, joined, reordered}
 use Rattle.operations.specs.declared.search.Run.{Run}
 use Rattle.operations.specs.Operations.{isRead}
 use Rattle.master_step.specs.declared.here.Here.{Here}

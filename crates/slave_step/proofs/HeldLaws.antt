@@ -41,7 +41,7 @@ use Rattle.slave.specs.Fits.{isListen, isRespondToWrite, isRespondToRead, count
 use Rattle.slave.specs.Machine.{owedAt, advanceAt}
 use Rattle.slave.specs.Steps.{settingIn, fitsLent, isOpen}
 use Rattle.stage_numbers.specs.SlaveStage.{isStage, stageOf, stageGroup, stageWhat, stagePhase}
-use Rattle.stage_numbers.proofs.Compared.{turned, itself, with-true, reordered}
+use Rattle.access.proofs.Compared.{turned, itself, with-true, reordered}
 use Rattle.slave_step.specs.Held.{fieldsAt, blockAt, settingAt, closing, endsAt, readyAt, Refuses, Steps, Step, StepsFrom}
 use Rattle.slave_step.proofs.Laws.{refuses}
 use Rattle.slave_step.proofs.ReadyLaws.{failed-told}

@@ -10,7 +10,7 @@ use Rattle.images.specs.SlaveImage.{kindOf}
 use Rattle.slave.specs.declared.state.Kind.{Kind}
 use Rattle.slave.specs.declared.state.Progress.{Progress}
 use Rattle.slave.specs.Fits.{limit, canReturn, returnsIn}
-use Rattle.stage_numbers.proofs.Bytes.{bytes}
+use Rattle.access.proofs.Bytes.{bytes}
 use Rattle.slave_step.specs.Held.{settingAt, closing, readyAt}
 
 pub returns-told : (x : Kind) (size count n v : ℕ) → eqb n 0 && canReturn x size count v ≡ returnsIn x size count (endingOf n v)
