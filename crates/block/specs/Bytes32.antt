@@ -37,7 +37,7 @@ fieldsOf b =
       count = longAt b 24;
       second = getD b 28 0;
       mhz = getD b 29 0;
-      unused = wordAt b 30;
+      extra = wordAt b 30;
     }
 
 -- the bytes that say it; the highest byte of a number is all that is above the others
@@ -62,7 +62,7 @@ bytesOf f =
     ∷ f .count % 65536 % 256 ∷ f .count % 65536 / 256 ∷ f .count / 65536 % 256 ∷ f .count / 65536 / 256
     ∷ f .second
     ∷ f .mhz
-    ∷ f .unused % 256 ∷ f .unused / 256 ∷ []
+    ∷ f .extra % 256 ∷ f .extra / 256 ∷ []
 
 -- a list of bytes, as lent from C
 abbrev pub Bytes : List ℕ → Type 0

@@ -53,7 +53,7 @@ pub fn fields(block: &[u8]) -> Fields
         count: long_at(block, 24),
         second: block[28],
         mhz: block[29],
-        unused: word_at(block, 30),
+        extra: word_at(block, 30),
     }
 }
 
@@ -104,8 +104,8 @@ fn image(f: Fields) -> [u8; 32]
         top(f.count),
         f.second,
         f.mhz,
-        (f.unused % 256) as u8,
-        high(f.unused),
+        (f.extra % 256) as u8,
+        high(f.extra),
     ]
 }
 
