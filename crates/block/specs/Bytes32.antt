@@ -1,7 +1,7 @@
 -- The 32 bytes of a block, numbers low byte first.
 use Prim.Native.Nat.{ℕ, _+_, _*_, _%_, _/_, _<_}
 use mathlib.Core.List.{List, [], _∷_}
-use lib.ListN.{getD}
+use lib.ListN.{getD, set}
 use Rattle.block.specs.declared.fields.Fields.{Fields}
 
 -- the length of a block, in every call
@@ -10,6 +10,9 @@ blockSize = 32
 
 abbrev pub wordAt : List ℕ → ℕ → ℕ
 wordAt b at = getD b at 0 + getD b (at + 1) 0 * 256
+
+abbrev pub withWord : List ℕ → ℕ → ℕ → List ℕ
+withWord b at w = set (set b at (w % 256)) (at + 1) (w / 256)
 
 abbrev pub longAt : List ℕ → ℕ → ℕ
 longAt b at = wordAt b at + wordAt b (at + 2) * 65536

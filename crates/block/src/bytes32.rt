@@ -2,7 +2,7 @@
 ghost use mathlib.Core.Path.{_≡_};
 ghost use Prim.Native.Nat.{_+_, _*_, _%_, _/_, _≤_};
 ghost use lib.ListN.{length};
-ghost use Rattle.block.specs.Bytes32.{wordAt, longAt, fieldsOf, bytesOf, blockSize};
+ghost use Rattle.block.specs.Bytes32.{wordAt, withWord, longAt, fieldsOf, bytesOf, blockSize};
 use crate::fields::Fields;
 
 // The length of a block, in every call.
@@ -14,7 +14,7 @@ fn word(low: u8, high: u8) -> u16
     low as u16 + high as u16 * 256
 }
 
-fn word_at(block: &[u8], at: usize) -> u16
+pub fn word_at(block: &[u8], at: usize) -> u16
     requires { ⌜ at + 2 ≤ length (now block) ⌝ }
     ensures { λ r. ⌜ r ≡ wordAt (now (block .entry)) at ⌝ }
 {
@@ -26,6 +26,17 @@ fn long_at(block: &[u8], at: usize) -> u32
     ensures { λ r. ⌜ r ≡ longAt (now (block .entry)) at ⌝ }
 {
     word_at(block, at) as u32 + word_at(block, at + 2) as u32 * 65536
+}
+
+// A word, low byte first, in two bytes from a place on.
+pub fn put_word(block: &mut [u8], at: usize, word: u16)
+    requires { ⌜ length (now block) ≡ blockSize ⌝ }
+    requires { ⌜ at + 2 ≤ blockSize ⌝ }
+    ensures { λ _. ⌜ length (now (block .exit)) ≡ blockSize ⌝ }
+    ensures { λ _. ⌜ now (block .exit) ≡ withWord (now (block .entry)) at word ⌝ }
+{
+    block[at] = (word % 256) as u8;
+    block[at + 1] = (word / 256) as u8;
 }
 
 // What a block says.
