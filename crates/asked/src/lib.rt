@@ -4,12 +4,17 @@ ghost use mathlib.Core.Path.{_≡_};
 ghost use Rattle.access.specs.declared.ending.Error.the-variants.{InvalidState};
 ghost use Rattle.access.specs.declared.need.Need.the-variants as need;
 ghost use Rattle.access.specs.declared.ending.Ending.{Ending};
-ghost use Rattle.access.specs.Endings.{done, failed, endingError, endingValue, endingExtra};
+ghost use lib.ListN.{length};
+ghost use Rattle.access.specs.Endings.{done, failed};
+ghost use Rattle.block.specs.Bytes32.{blockSize};
+ghost use Rattle.images.specs.EndImage.{KeepsEnd};
 ghost use Rattle.asked.specs.Asked.{Asks, needOf};
 use access::Ending;
 use access::Error;
 use access::Need;
 use access::ending;
+use block::bytes32;
+use images::end_image;
 use registers::Register;
 use registers::register;
 
@@ -86,11 +91,16 @@ pub fn end(ending: Ending) -> u64
     ending::ending_number(ending)
 }
 
-// The call ends with the end that these words say.
-pub fn ended(error: u8, value: u16, extra: u16) -> u64
-    ensures { λ r. ⌜ ((e : Ending) → error ≡ endingError e → value ≡ endingValue e → extra ≡ endingExtra e → Asks r (need.End e)) ⌝ }
+// The call ends with the end that its block keeps.
+pub fn ended(block: &[u8]) -> u64
+    requires { ⌜ length (now block) ≡ blockSize ⌝ }
+    ensures { λ r. ⌜ ((e : Ending) → KeepsEnd (now (block .entry)) e → Asks r (need.End e)) ⌝ }
 {
-    ending::words_number(error, value, extra)
+    ending::words_number(
+        block[end_image::ERROR],
+        bytes32::word_at(block, end_image::VALUE),
+        bytes32::word_at(block, end_image::EXTRA),
+    )
 }
 
 // The call is refused with this error.

@@ -48,9 +48,9 @@ fn ends(block: &mut [u8]) -> u64
     requires { ⌜ length (now block) ≡ blockSize ⌝ }
     ensures { λ r. ⌜ Aborts (now (block .entry)) (now (block .exit)) r (λ (_ : Chip) (d : Progress). to Ended d) ⌝ }
 {
-    let error = block[put::ERROR];
+    let end = asked::ended(block);
     put::to(block, stage::ENDED, 0, 0);
-    asked::failed(error)
+    end
 }
 
 // finish_transfer(), and then `if control.start() || control.stop()` a reset that puts FREQ, CKCFGR and RTR back,

@@ -13,8 +13,9 @@ ghost use Rattle.access.specs.declared.need.Need.the-variants as need;
 use crate::here::Here;
 use crate::put;
 use crate::stage;
+use access::Ending;
 use access::Failure;
-use access::ending;
+use images::end_image;
 use registers::Register;
 
 // An error: the abort begins. (The Rust's `OnDrop::new(Self::abort_transfer)`.)
@@ -22,8 +23,7 @@ pub fn fails(block: &mut [u8], failure: Failure) -> u64
     requires { ⌜ length (now block) ≡ blockSize ⌝ }
     ensures { λ r. ⌜ ((c : Call) (d : Progress) (g w p : ℕ) → d .ending ≡ done → now (block .entry) ≡ blockAt c d g w p → Moves c (fails failure d) (now (block .exit)) r) ⌝ }
 {
-    let error = failure.error;
-    block[put::ERROR] = ending::error_number(error);
+    end_image::put(block, Ending::Failed(failure));
     put::to(block, stage::ABORT, 0, 0);
     asked::read(Register::Ctlr2)
 }

@@ -24,8 +24,6 @@ pub const PHASE: usize = 5;
 
 pub const MARKS: usize = 6;
 
-pub const ERROR: usize = 7;
-
 pub const ADDRESS: usize = 8;
 
 pub const RUN: usize = 10;
@@ -39,8 +37,6 @@ pub const WORD: usize = 16;
 pub const DIVIDER: usize = 18;
 
 pub const RISE: usize = 20;
-
-pub const VALUE: usize = 22;
 
 fn word(low: u8, high: u8) -> u16
     ensures { λ r. ⌜ r ≡ low + high * 256 ⌝ }

@@ -1,6 +1,7 @@
 -- `asked::ended` meets its contract.
 -- Assumes nothing.
 use borrow.Author.Needs.{needs}
+use mathlib.Core.Path.{refl}
 use Rattle.asked.proofs.EndLaws as law
 use Rattle.asked.proofs.ended.Statement.{statement}
 use Rattle.asked.proofs.ended.Tie as tie
@@ -9,5 +10,8 @@ pub ended-spec : {M : Type 1} → statement M
 ended-spec =
     tie.close
     (tie.spec
+    (λ c. search needs)
     (λ c κs. search needs)
-    (λ c e p q r. law.ended e _ (c .before .args .error) (c .before .args .value) (c .before .args .extra) (c .words-number .ensures) (search needs) (search needs) p q r))
+    (λ c κs. search needs)
+    (λ c κs. search needs)
+    (λ c e k. law.ended (c .words-number .ensures) refl (c .before .before .word-at .ensures) (c .before .word-at2 .ensures) (search needs) (search needs) k))

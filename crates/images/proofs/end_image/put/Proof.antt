@@ -8,10 +8,12 @@ use Rattle.images.proofs.end_image.put.Tie as tie
 
 returns : tie.Need-returns
 unfolding bytesOf
-returns c =
-    (c .before .before .put-word2 .ensures .0, λ f e.
-    c .before .before .put-word2 .ensures .1
-    ∙ rw (c .before .before .before .before .before .before .put-word .ensures .1, e, c .before .before .before .before .before .before .before .before .ending-error .ensures, c .before .before .before .before .before .before .before .before .before .ending-extra .ensures, c .before .before .before .before .before .before .before .before .before .before .ending-value .ensures .0))
+returns c = (
+  c .before .before .put-word2 .ensures .0,
+  λ f e.
+      c .before .before .put-word2 .ensures .1
+      ∙ rw (c .before .before .before .before .before .before .put-word .ensures .1, e, c .before .before .before .before .before .before .before .before .ending-error .ensures, c .before .before .before .before .before .before .before .before .before .ending-extra .ensures, c .before .before .before .before .before .before .before .before .before .before .ending-value .ensures .0),
+)
 
 pub put-spec : {M : Type 1} → statement M
 put-spec =
