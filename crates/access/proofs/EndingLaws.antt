@@ -1,17 +1,20 @@
 -- An end in words is told by them and by C's number, and which words are an end's.
 -- Assumes nothing.
-use Prim.Native.Nat.{ℕ, _+_, _*_, _/_, _%_, _<_}
-use mathlib.Core.Path.{_≡_, refl, sym, ap, _∙_}
+use Prim.Native.Nat.{ℕ, _+_, _*_, _/_, _%_, _<_, _≤_}
+use mathlib.Core.Path.{_≡_, refl, sym, ap, subst, _∙_}
 use mathlib.Core.Bool.{Bool, true, false, not, cond, _&&_, _||_, true≢false}
 use native.Mathlib.Omega.{arith}
 use lib.Dec.{eqb, leb, ltb}
-use borrow.Author.Tests.{eqb-true, ne-eqb}
+use borrow.Author.Tests.{eqb-true, ne-eqb, lt-ltb}
 use Rattle.access.specs.declared.ending.Error.{Error}
 use Rattle.access.specs.declared.ending.Error.the-variants.{Bus, Arbitration, Nack, Timeout, Crc, Overrun, BufferTooLong, InvalidAddress, InvalidFrequency, DividerTooLarge, InputTooSlow, TooManyOperations, LengthMismatch, InvalidState, InvalidArgument, ReservedAddress, BlockLength, WrongCode, NoSuchSpeed, NoAllowance, TooManyBuses, TooManyItems, NoOrder, NoSuchDate, WrongDate, MapLength}
+use Rattle.access.specs.declared.ending.Failure.{Failure}
+use Rattle.access.specs.declared.ending.Outcome.{Outcome}
 use Rattle.access.specs.declared.ending.Ending.{Ending}
 use Rattle.access.specs.declared.ending.Ending.the-variants.{Done, Failed}
-use Rattle.access.specs.Endings.{errorNumber, errorOf, done, returned, failed, endingError, endingValue, endingExtra, extraPlace, wordsNumber, endingNumber, endingOf, endingIn, isEnding, isPlain, isDone, hasFailed}
+use Rattle.access.specs.Endings.{errorNumber, errorOf, failureOf, done, returned, failed, endingError, endingValue, endingExtra, extraPlace, wordsNumber, endingNumber, endingOf, endingIn, isEnding, isPlain, isDone, hasFailed}
 use Rattle.access.specs.Numbers.{EndHoldsWords}
+use Rattle.access.proofs.Choice.{when-true, when-false, second-true}
 use Rattle.access.proofs.Bytes.{bytes}
 use Rattle.access.proofs.Compared.{turned, itself}
 
@@ -116,7 +119,30 @@ ending-range n v x h = go (eqb n 0) refl
     go true e = rw (eqb-true n 0 e, itself v, turned 0 x)
     go false e = rw (e, error-range n h, e, turned 0 v, turned 0 x)
 
--- words of an end that no call has: done with nothing to return, or an error from 1 to 6
+-- words that are an end's say nothing that it has no use for; and so do others whose number is small
+pub ending-plain : (n v x : ℕ) → isEnding n v x ≡ true → isPlain n v x ≡ true
+unfolding isEnding
+ending-plain n v x e = go (eqb n 0) refl
+  where
+    rest : eqb (endingValue (endingOf n v x)) v && eqb (endingExtra (endingOf n v x)) x ≡ true
+    rest = second-true (eqb (endingError (endingOf n v x)) n) (eqb (endingValue (endingOf n v x)) v && eqb (endingExtra (endingOf n v x)) x) e
+
+    go : (b : Bool) → eqb n 0 ≡ b → isPlain n v x ≡ true
+    go true z = rw z (turned x 0 ∙ second-true (eqb v v) (eqb 0 x) (rw z at rest))
+    go false z = let r : eqb 0 v && eqb 0 x ≡ true = rw z at rest in rw (z, turned v 0, turned x 0) r
+
+pub plain-ending : (n v x : ℕ) → n ≤ 6 → isPlain n v x ≡ true → isEnding n v x ≡ true
+plain-ending n v x h e = ending-range n v x (omega (arith, h)) ∙ rw (ne-eqb n 7 (λ z. omega (arith, h, z)), lt-ltb n 28 (omega (arith, h)), e)
+
+-- ---- an end by its words: by 0 one that is done, by another number one that failed
+
+pub as-returned : (P : Ending → Type 0) (n v x : ℕ) → eqb n 0 ≡ true → ((o : Outcome) → o .value ≡ v → P (Done o)) → P (endingOf n v x)
+as-returned P n v x z p = subst P (when-true (returned v) (failed (errorOf n)) z) (p (record { value = v }) refl)
+
+pub as-failed : (P : Ending → Type 0) (n v x : ℕ) → eqb n 0 ≡ false → ((f : Failure) → P (Failed f)) → P (endingOf n v x)
+as-failed P n v x z p = subst P (when-false (returned v) (failed (errorOf n)) z) (p (failureOf (errorOf n)))
+
+-- done with nothing to return, or an error from 1 to 6
 pub done-told : (n v x : ℕ) → eqb n 0 && eqb v 0 ≡ isDone (endingOf n v x)
 done-told n v x = go (eqb n 0)
   where

@@ -17,8 +17,7 @@ fn unused_empty(block: &[u8]) -> bool
         & ((put::word_at(block, put::LEFT) == 0) & (put::word_at(block, put::PLACE) == 0)))
         & (((put::word_at(block, put::DIVIDER) == 0) & (put::word_at(block, put::RISE) == 0))
             & (((block[put::MARKS] == 0) & (put::word_at(block, put::ADDRESS) == 0))
-                & ((block[put::SECOND] == 0)
-                    & ((block[put::MHZ] == 0) & (put::word_at(block, put::UNUSED) == 0)))))
+                & ((block[put::SECOND] == 0) & (block[put::MHZ] == 0))))
 }
 
 // Byte 0 is the entry, one of the slave's; byte 1 a chip.

@@ -2,12 +2,10 @@
 ghost use mathlib.Core.Path.{_≡_};
 ghost use Prim.Native.Nat.{ℕ, _+_, _*_, _≤_};
 ghost use lib.ListN.{length};
-ghost use Rattle.access.specs.Endings.{done, returned};
 ghost use Rattle.block.specs.Bytes32.{blockSize, wordAt, longAt};
 ghost use Rattle.slave.specs.declared.state.Progress.{Progress};
-ghost use Rattle.slave.specs.declared.state.Setting.{Setting};
-ghost use Rattle.slave.specs.Machine.{saves, counted, endsWith};
-ghost use Rattle.slave_step.specs.Held.{Puts, blockAt, kept};
+ghost use Rattle.slave.specs.Machine.{saves, counted};
+ghost use Rattle.slave_step.specs.Held.{Puts, kept};
 
 // Where the numbers stand in the block (docs/STATE.md).
 pub const ENTRY: usize = 0;
@@ -24,8 +22,6 @@ pub const PHASE: usize = 5;
 
 pub const MARKS: usize = 6;
 
-pub const ERROR: usize = 7;
-
 pub const ADDRESS: usize = 8;
 
 pub const RUN: usize = 10;
@@ -40,15 +36,11 @@ pub const DIVIDER: usize = 18;
 
 pub const RISE: usize = 20;
 
-pub const VALUE: usize = 22;
-
 pub const COUNT: usize = 24;
 
 pub const SECOND: usize = 28;
 
 pub const MHZ: usize = 29;
-
-pub const UNUSED: usize = 30;
 
 fn word(low: u8, high: u8) -> u16
     ensures { λ r. ⌜ r ≡ low + high * 256 ⌝ }
@@ -112,14 +104,4 @@ pub fn counted(block: &mut [u8], count: u32)
     block[COUNT + 1] = (count % 65536 / 256) as u8;
     block[COUNT + 2] = (count / 65536 % 256) as u8;
     block[COUNT + 3] = (count / 65536 / 256) as u8;
-}
-
-// What the call is to return, where no end was known.
-pub fn returns(block: &mut [u8], value: u16)
-    requires { ⌜ length (now block) ≡ blockSize ⌝ }
-    ensures { λ _. ⌜ length (now (block .exit)) ≡ blockSize ⌝ }
-    ensures { λ _. ⌜ ((g : Setting) (d : Progress) (n w p : ℕ) → d .ending ≡ done → now (block .entry) ≡ blockAt g d n w p → now (block .exit) ≡ blockAt g (endsWith (returned value) d) n w p) ⌝ }
-{
-    block[VALUE] = (value % 256) as u8;
-    block[VALUE + 1] = (value / 256) as u8;
 }
