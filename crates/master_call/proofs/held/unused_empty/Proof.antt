@@ -12,7 +12,9 @@ use Rattle.master_call.proofs.held.unused_empty.Tie as tie
 
 returns : tie.Need-returns
 unfolding unusedEmpty fieldsOf
-returns c = rw (c .before .before .before .before .word-at .ensures, c .before .before .before .word-at2 .ensures, c .word-at3 .ensures) (long-zero (wordAt (c .before .before .before .before .before .before .args .block .now) 24) (wordAt (c .before .before .before .before .before .before .args .block .now) 26) (eqb (getD (c .before .before .before .before .before .before .args .block .now) 28 0) 0 && (eqb (getD (c .before .before .before .before .before .before .args .block .now) 29 0) 0 && eqb (wordAt (c .before .before .before .before .before .before .args .block .now) 30) 0)))
+returns c =
+    let b = c .before .before .before .before .before .args .block .now in
+    rw (c .before .before .before .word-at .ensures, c .before .before .word-at2 .ensures) (long-zero (wordAt b 24) (wordAt b 26) (eqb (getD b 28 0) 0 && eqb (getD b 29 0) 0))
 
 pub unused-empty-spec : {M : Type 1} → statement M
 unused-empty-spec =
@@ -22,5 +24,4 @@ unused-empty-spec =
     (λ c κs. search needs)
     (λ c. search needs)
     (λ c. search needs)
-    (λ c κs. search needs)
     returns)
