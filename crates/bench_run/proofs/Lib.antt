@@ -1,2 +1,9 @@
 pub mod PlayLaws
 pub mod PrintedLaws
+pub mod Counts
+pub mod LaidLaws
+pub mod Follows
+pub mod Played
+pub mod Writes
+pub mod Arrived
+pub mod PrintsLayer1
