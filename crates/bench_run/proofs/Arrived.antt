@@ -3,15 +3,13 @@
 use mathlib.Core.Path.{_≡_, refl, sym, ap, _∙_, subst}
 use mathlib.Core.Bool.{Bool, true, false, cond, Bool·beq, not, _&&_, _||_, true≢false}
 use mathlib.Core.List.{List, [], _∷_, _++_, map, append-assoc, append-nil}
-use mathlib.Core.Option.{none, some}
 use Prim.Native.Nat.{ℕ, zero, suc, _+_, _%_, _≤_, _<_}
 use native.Mathlib.Nat.{add-zero, zero-add}
 use native.Mathlib.Omega.{arith}
-use borrow.Author.Tests.{leb-true, ltb-true, eqb-true}
+use borrow.Author.Tests.{ltb-true, eqb-true}
 use lib.Dec.{eqb, leb, ltb}
 use lib.ListN.{length, take, set, length-set}
 use lib.Seq.{take-suc-set}
-use Rattle.registers.specs.declared.register.Register.{Register}
 use Rattle.access.specs.declared.need.Need.{Need}
 use Rattle.access.specs.declared.need.Need.the-variants as need
 use Rattle.access.specs.Endings.{isDone}
@@ -43,7 +41,7 @@ use Rattle.master.specs.declared.stage.Stage.the-variants.{Begin, WaitStop, Lau
 use Rattle.master.specs.declared.state.Progress.{Progress}
 use Rattle.master.specs.declared.state.Move.{Move}
 use Rattle.master.specs.declared.call.Call.{Call}
-use Rattle.master.specs.Machine.{Shape, owedAt, owedRead, owedAbort, owed, advance, master, start}
+use Rattle.master.specs.Machine.{Shape, owedAt, owedRead, owedAbort, owed, master, start}
 use Rattle.master.specs.Fits.{counts, runs, receiving, lastOnes, fitsFound, fits}
 use Rattle.master.specs.Calls.{Lent, Accepted, shapeOf}
 use Rattle.master.proofs.AcceptedFits.{states-fit}

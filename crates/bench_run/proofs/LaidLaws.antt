@@ -1,13 +1,12 @@
 -- Programs that show the same accesses are given the same words.
 -- Assumes nothing.
-use mathlib.Core.Path.{_≡_, refl, sym, ap, _∙_, subst}
+use mathlib.Core.Path.{_≡_, refl, sym, ap, _∙_}
 use mathlib.Core.Bool.{Bool, true, false}
 use mathlib.Core.List.{List, [], _∷_}
-use mathlib.Core.Option.{none}
 use Prim.Native.Nat.{ℕ, suc}
 use native.Mathlib.Omega.{arith}
-use Rattle.access.specs.Program.{Access, read, write, send, clock, Program, finish, access, keep, cut}
-use Rattle.access.specs.Record.{Event, shownOf, answerTo}
+use Rattle.access.specs.Program.{Access, Program, finish, access, keep, cut}
+use Rattle.access.specs.Record.{Event, shownOf}
 use Rattle.bench_run.specs.Laid.{takesAnswer, nextAnswer, handed, laid}
 
 -- after every list of answers the same accesses, where i and j bytes had arrived before

@@ -6,4 +6,6 @@ pub mod Follows
 pub mod Played
 pub mod Writes
 pub mod Arrived
+pub mod SaidForm
 pub mod PrintsLayer1
+pub mod PrintedExample

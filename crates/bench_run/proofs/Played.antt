@@ -1,30 +1,28 @@
 -- What the bench plays of a call that follows a program is what is seen of the program: no turn and no access more.
 -- Assumes nothing.
-use mathlib.Core.Path.{_≡_, refl, sym, ap, _∙_, subst}
-use mathlib.Core.Bool.{Bool, true, false, cond, true≢false}
+use mathlib.Core.Path.{_≡_, refl, sym, ap, _∙_}
+use mathlib.Core.Bool.{Bool, true, false, true≢false}
 use mathlib.Core.List.{List, [], _∷_, _++_, append-assoc}
-use mathlib.Core.Option.{Option, none, some}
+use mathlib.Core.Option.{none, some}
 use Prim.Native.Nat.{ℕ, zero, suc, _+_, _-_, _*_, _≤_, _<_}
 use native.Mathlib.Nat.{add-assoc, add-zero}
 use native.Mathlib.Omega.{arith}
 use lib.ListN.{length, getD, take, drop, set, length-drop}
-use lib.Seq.{getD-drop, drop-drop, drop-cons}
-use Rattle.registers.specs.declared.register.Register.{Register}
+use lib.Seq.{getD-drop, drop-drop}
 use Rattle.access.specs.declared.ending.Ending.{Ending}
-use Rattle.access.specs.declared.next.Next.{Next}
 use Rattle.access.specs.declared.next.Next.the-variants as next
 use Rattle.access.specs.Program.{Access, read, write, send, clock, Program, finish, access, keep, cut}
-use Rattle.access.specs.Record.{Event, Shown, noMore, event, shownOf, answerTo}
+use Rattle.access.specs.Record.{Shown, noMore, event, shownOf, answerTo}
 use Rattle.ch32_i2c.specs.Left.{Left}
 use Rattle.ch32_i2c.specs.Fed.{Entry, nextOf, stored}
 use Rattle.ch32_i2c.specs.Demands.{transaction, entryOf}
 use Rattle.ch32_i2c.specs.Transfer.{transactionStep}
-use Rattle.bench_text.specs.Shown.{arrivedText, openText, endText}
+use Rattle.bench_text.specs.Shown.{arrivedText}
 use Rattle.bench_run.specs.Play.{asked, arriving, isEnd, accessText, finishText, playFrom}
 use Rattle.bench_run.proofs.PlayLaws.{play-over, play-ended, play-open, play-on}
 use Rattle.bench_run.specs.Laid.{takesAnswer, nextAnswer, handed, laid}
-use Rattle.bench_run.specs.Layer1.{lineAt, linesOf, countOf, usedIn, endLine}
-use Rattle.bench_run.proofs.Counts.{writesIn, arrivingIn, Few, few-keep, few-answered, some-left, few-written}
+use Rattle.bench_run.specs.Layer1.{linesOf, usedIn, endLine}
+use Rattle.bench_run.proofs.Counts.{arrivingIn, Few, few-keep, few-answered, some-left, few-written}
 use Rattle.bench_run.proofs.Follows.{Follows, owes-end, owes-access, owes-something, unread-ended, unread-owed, follows-keep, follows-step}
 
 -- ---- one access
@@ -105,10 +103,13 @@ module _ (chip address : ℕ) (list written answers : List ℕ) where
   first-left used left e = ap (λ (i : ℕ). getD answers i 0) (sym (add-zero used)) ∙ sym (getD-drop used answers 0 0) ∙ ap (λ (l : List ℕ). getD l 0 0) e
 
   one-left : (used a : ℕ) (left : List ℕ) → drop used answers ≡ a ∷ left → (used < length answers) × ((getD answers used 0 ≡ a) × (drop (used + 1) answers ≡ left))
-  one-left used a left e =
-      (omega (arith, length-drop used answers, ap length e),
-      (first-left used (a ∷ left) e,
-      sym (drop-drop 1 used answers) ∙ ap (λ (l : List ℕ). drop 1 l) e))
+  one-left used a left e = (
+    omega (arith, length-drop used answers, ap length e),
+    (
+      first-left used (a ∷ left) e,
+      sym (drop-drop 1 used answers) ∙ ap (λ (l : List ℕ). drop 1 l) e,
+    ),
+  )
 
   next-left : (used : ℕ) (left : List ℕ) → drop used answers ≡ left → getD answers used 0 ≡ nextAnswer left
   next-left used [] e = first-left used [] e

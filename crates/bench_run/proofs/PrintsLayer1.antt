@@ -2,32 +2,29 @@
 -- Assumes nothing.
 use mathlib.Core.Path.{_≡_, refl, sym, ap, _∙_, subst}
 use mathlib.Core.Bool.{true, not}
-use mathlib.Core.List.{List, [], _∷_, _++_, map}
-use mathlib.Core.Option.{Option, none, some}
-use Prim.Native.Nat.{ℕ, suc, _+_, _*_, _%_, _<_, _≤_}
+use mathlib.Core.List.{List, [], map}
+use mathlib.Core.Option.{none, some}
+use Prim.Native.Nat.{ℕ, _+_, _*_, _%_, _<_, _≤_}
 use native.Mathlib.Nat.{zero-add}
 use native.Mathlib.Omega.{arith}
 use lib.Dec.{eqb}
 use lib.ListN.{length, take, replicate}
 use lib.Seq.{length-take-le}
-use Rattle.access.specs.declared.ending.Ending.{Ending}
 use Rattle.access.specs.declared.ending.Error.{Error}
 use Rattle.access.specs.declared.ending.Error.the-variants.{InvalidState, InvalidArgument}
-use Rattle.access.specs.declared.next.Next.the-variants as next
 use Rattle.access.specs.Endings.{failed}
 use Rattle.access.specs.Program.{Program}
-use Rattle.access.specs.Record.{Event, Shown, noMore, shownOf}
+use Rattle.access.specs.Record.{Shown, noMore, shownOf}
 use Rattle.access.specs.Machine.{shownFrom}
 use Rattle.alike.specs.Like.{forgetting}
 use Rattle.block.specs.Bytes32.{blockSize}
-use Rattle.operations.specs.Operations.{operationsOf}
-use Rattle.operations.specs.Runs.{runsOf, readSum}
+use Rattle.operations.specs.Runs.{readSum}
 use Rattle.master.specs.declared.call.Kind.the-variants as kind
 use Rattle.master.specs.declared.call.Call as master
 use Rattle.master.specs.Rust.{theRust}
 use Rattle.master.specs.Ours as parts
 use Rattle.master.specs.Machine as machine
-use Rattle.master.specs.Calls.{Lent, lentWith, refusal, shapeOf, rustWith, oursWith, callShown}
+use Rattle.master.specs.Calls.{Lent, lentWith, refusal, shapeOf, rustWith, oursWith}
 use Rattle.master.proofs.CallAgrees.{passed-cause, master-is-ours}
 use Rattle.images.specs.Numbers.{chipOf}
 use Rattle.ch32_i2c.specs.Left.{Left, refusedWith}
@@ -36,16 +33,16 @@ use Rattle.ch32_i2c.specs.Transfer.{callOf, transactionBegin}
 use Rattle.ch32_i2c.specs.Demands.{Call, unknown, ownRefusal, refusalOf, theRusts, endAsTheRust, entryOf, ours, rust, Records}
 use Rattle.ch32_i2c.proofs.CallsRun.{call-shown}
 use Rattle.ch32_i2c.proofs.Demands.{demand-1, demand-2}
-use Rattle.bench_text.specs.Shown.{arrivedText}
-use Rattle.bench_text.specs.Input.{Said, Input, badLine, call, inputOf}
+use Rattle.bench_text.specs.Input.{Said, Input, call, inputOf}
 use Rattle.bench_run.specs.Play.{playFrom, mostTurns}
 use Rattle.bench_run.specs.Printed.{printedOf}
 use Rattle.bench_run.proofs.PlayLaws.{play-ended}
 use Rattle.bench_run.specs.Laid.{laid}
-use Rattle.bench_run.specs.Layer1.{linesOf, usedIn, bytesIn, endLine, textOf}
+use Rattle.bench_run.specs.Layer1.{usedIn, bytesIn, textOf}
 use Rattle.bench_run.specs.Claims.{transactionOf, programOf, ourWords, rustWords, ourPlay, rustPlay, endingWith, causeOf, BenchPrints}
-use Rattle.bench_text.proofs.SaidLaws.{Bounded, call-bounded}
-use Rattle.bench_run.proofs.Counts.{writesIn, arrivingIn, Few, laid-short, laid-counted}
+use Rattle.bench_text.proofs.SaidLaws.{call-bounded}
+use Rattle.bench_run.proofs.SaidForm.{causes}
+use Rattle.bench_run.proofs.Counts.{writesIn, Few, laid-short, laid-counted}
 use Rattle.bench_run.proofs.LaidLaws.{none-laid, laid-same}
 use Rattle.bench_run.proofs.Follows.{Follows}
 use Rattle.bench_run.proofs.Played.{textFrom, play-is}
@@ -202,6 +199,7 @@ bench-prints =
       as-the-rust = λ turns chip address s. as-the-rust chip address s turns;
       refused = refused-prints;
       rust-refuses = λ chip address s e q t turns pos. rust-refuses chip address s turns e q t pos;
+      causes = causes;
       bad = λ text read k e. ap (λ (i : Input). printedOf i read) e;
       few = λ chip address s q turns h. subst (λ (x : Shown). length (ourWords turns chip address s) ≤ 3 * usedIn (x .events)) (sym (ours-program chip address s turns (ourWords turns chip address s))) (few chip address s q turns h);
       used = λ turns chip address s. used chip address s turns;
@@ -215,4 +213,6 @@ bench-prints =
           λ chip address s q turns h.
           subst (λ (x : Shown). bytesIn (x .arrivals) ≡ map (λ (a : ℕ). a % 256) (payloadIn (recordIn x))) (sym (ours-program chip address s turns (ourWords turns chip address s)))
           (played-arrived chip address s q turns h .payload);
+      our-program = λ turns chip address s words. ours-program chip address s turns words;
+      rust-program = λ turns chip address s words. rust-program chip address s turns words;
     }

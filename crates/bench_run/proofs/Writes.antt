@@ -1,20 +1,15 @@
 -- A transfer makes at most two writes for each answer that it takes: a law about the machine's stages.
 -- Assumes nothing.
-use mathlib.Core.Path.{_≡_, refl, sym, ap, _∙_}
-use mathlib.Core.Bool.{Bool, true, false, cond, not, _&&_, _||_}
+use mathlib.Core.Bool.{true, not, _&&_, _||_}
 use mathlib.Core.List.{List, [], _∷_}
 use Prim.Native.Nat.{ℕ, _+_, _*_, _≤_}
 use native.Mathlib.Omega.{arith}
 use lib.Dec.{eqb, leb}
-use lib.ListN.{length}
 use Rattle.registers.specs.Bits.{START, STOP, SB, RXNE, MSL}
 use Rattle.registers.specs.Word.{hasBit}
 use Rattle.registers.specs.Flags.{errorFlags}
-use Rattle.access.specs.declared.ending.Error.the-variants.{Arbitration, Timeout}
-use Rattle.access.specs.declared.ending.Failure.{Failure}
 use Rattle.access.specs.declared.need.Need.{Need}
 use Rattle.access.specs.declared.need.Need.the-variants as need
-use Rattle.access.specs.Endings.{failureOf}
 use Rattle.access.specs.Program.{late}
 use Rattle.access.specs.Record.{Shown}
 use Rattle.access.specs.Machine.{Machine, seenOwed, seenAnswered, shownFrom}
@@ -26,7 +21,6 @@ use Rattle.operations.specs.declared.search.Run.{Run}
 use Rattle.master.specs.declared.call.Setting.{Setting}
 use Rattle.master.specs.declared.stage.Fall.{Fall}
 use Rattle.master.specs.declared.stage.Fall.the-variants as fall
-use Rattle.master.specs.declared.stage.FallStage.{FallStage}
 use Rattle.master.specs.declared.stage.FallStage.the-variants as falling
 use Rattle.master.specs.declared.stage.LaunchStage.{LaunchStage}
 use Rattle.master.specs.declared.stage.LaunchStage.the-variants as launch
@@ -50,7 +44,7 @@ use Rattle.master.specs.declared.stage.Stage.{Stage}
 use Rattle.master.specs.declared.stage.Stage.the-variants.{Begin, WaitStop, LaunchStart, Wait, Address, SendByte, RecvByte, ReadIter, GenerateStop, Abort, Ended}
 use Rattle.master.specs.declared.state.Progress.{Progress}
 use Rattle.master.specs.declared.state.Move.{Move}
-use Rattle.master.specs.Machine.{Shape, byteDone, begun, fresh, fails, stopsHere, isSet, continues, fallen, finished, writeBytes, readBytes, waited, tests, judged, waits, addressed, addressPhase, recvByte, blockingReadIter, stopped, generateStop, launchStart, waitStopFinished, abortTransfer, advanceAt, owedAt, owed, advance, runOf, master, startWith, start, foundRun}
+use Rattle.master.specs.Machine.{Shape, byteDone, begun, fresh, fails, stopsHere, isSet, fallen, finished, writeBytes, readBytes, waited, tests, waits, addressed, addressPhase, recvByte, blockingReadIter, stopped, launchStart, waitStopFinished, abortTransfer, advanceAt, owedAt, owed, advance, runOf, master, startWith, start}
 use Rattle.operations.specs.Operations.{isRead}
 use Rattle.operations.specs.Runs.{runAt}
 use Rattle.operations.specs.declared.search.FoundRun.{FoundRun}
