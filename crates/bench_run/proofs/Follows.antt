@@ -72,12 +72,6 @@ module _ (c : Entry) where
     pub owes-something : Follows n at cut bytes h → ⊥
     owes-something f = never-cut (h .next) (f .record-is [] pos) (f .end-is [] pos)
 
-    pub unread-ended : {e : Ending} → Follows n at (finish e) bytes h → h .read ≡ bytes
-    unread-ended f = f .read-is [] pos
-
-    pub unread-owed : {x : Access} {k : ℕ → Program} → Follows n at (access x k) bytes h → h .read ≡ bytes
-    unread-owed f = f .read-is [] pos
-
   pub follows-keep : {n at b : ℕ} {p : Program} {bytes : List ℕ} {h : Left} → Follows n at (keep b p) bytes h → Follows n (suc at) p (set bytes at b) h
   follows-keep f = record { record-is = f .record-is; end-is = f .end-is; read-is = f .read-is }
 

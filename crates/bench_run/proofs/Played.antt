@@ -1,4 +1,4 @@
--- What the bench plays of a call that follows a program is what is seen of the program: no turn and no access more.
+-- What the bench plays of a call that follows a program is what is seen of the program on the same answers, if there are turns enough.
 -- Assumes nothing.
 use mathlib.Core.Path.{_≡_, refl, sym, ap, _∙_}
 use mathlib.Core.Bool.{Bool, true, false, true≢false}
@@ -23,7 +23,7 @@ use Rattle.bench_run.proofs.PlayLaws.{play-over, play-ended, play-open,
 use Rattle.bench_run.specs.Laid.{takesAnswer, nextAnswer, handed, laid}
 use Rattle.bench_run.specs.Layer1.{linesOf, usedIn, endLine}
 use Rattle.bench_run.proofs.Counts.{arrivingIn, Few, few-keep, few-answered, some-left, few-written}
-use Rattle.bench_run.proofs.Follows.{Follows, owes-end, owes-access, owes-something, unread-ended, unread-owed, follows-keep, follows-step}
+use Rattle.bench_run.proofs.Follows.{Follows, owes-end, owes-access, owes-something, follows-keep, follows-step}
 
 -- ---- one access
 
@@ -67,19 +67,22 @@ module _ (chip address : ℕ) (list written answers : List ℕ) where
     abbrev plays : List ℕ → Type 0
     plays text = playFrom turns list written answers h used arrived ≡ text
 
-    stops : isEnd (h .next) ≡ true → plays (finishText (h .next) (take arrived (h .read)) used)
-    stops e = go turns
-      where
-        go : (n : ℕ) → playFrom n list written answers h used arrived ≡ finishText (h .next) (take arrived (h .read)) used
-        go zero = play-over list written answers h used arrived zero (omega arith)
-        go (suc n) = play-ended list written answers h used arrived (suc n) (omega arith) e
+    -- the last lines, with turns left or none
+    abbrev last : List ℕ
+    last = finishText (h .next) (take arrived (h .read)) used
 
-    waits : isEnd (h .next) ≡ false → length answers < used + asked (h .next) → plays (finishText (h .next) (take arrived (h .read)) used)
-    waits e l = go turns
+    last-lines : ((n : ℕ) → playFrom (suc n) list written answers h used arrived ≡ last) → plays last
+    last-lines f = go turns
       where
-        go : (n : ℕ) → playFrom n list written answers h used arrived ≡ finishText (h .next) (take arrived (h .read)) used
+        go : (n : ℕ) → playFrom n list written answers h used arrived ≡ last
         go zero = play-over list written answers h used arrived zero (omega arith)
-        go (suc n) = play-open list written answers h used arrived (suc n) (omega arith) e l
+        go (suc n) = f n
+
+    stops : isEnd (h .next) ≡ true → plays last
+    stops e = last-lines (λ n. play-ended list written answers h used arrived (suc n) (omega arith) e)
+
+    waits : isEnd (h .next) ≡ false → length answers < used + asked (h .next) → plays last
+    waits e l = last-lines (λ n. play-open list written answers h used arrived (suc n) (omega arith) e l)
 
     ended : {e : Ending} {bytes : List ℕ} → h .next ≡ next.End e → h .read ≡ bytes → plays (textFrom (noMore (some e)) bytes used arrived)
     ended p q = stops (rw p) ∙ rw (p, q, add-zero arrived, add-zero used)
@@ -129,7 +132,7 @@ module _ (chip address : ℕ) (list written answers : List ℕ) where
 
       go : (t : Bool) → takesAnswer x ≡ t → (left : List ℕ) → drop used answers ≡ left → w + 3 * length left < n → w + 3 * length left ≤ turns
           → playFrom turns list written answers h used arrived ≡ textFrom (shownOf at (access x k) (handed t left (λ a left. a ∷ laid (k a) left))) bytes used arrived
-      go true t [] d l m = open-at turns used arrived h x t owes (unread-owed entry (omega arith) f) (none-left used d)
+      go true t [] d l m = open-at turns used arrived h x t owes (f .read-is [] (omega arith)) (none-left used d)
       go true t (a ∷ left) d l m =
           let q = one-left used a left d in
           let o = asks-one x t in
@@ -149,7 +152,7 @@ module _ (chip address : ℕ) (list written answers : List ℕ) where
           ∙ with-line x a (shownOf at (k a) (laid (k a) left)) bytes used arrived
 
   pub play-is : (p : Program) → Plays p
-  play-is (finish e) turns w n at used arrived bytes left h f c d u l m = ended turns used arrived h (owes-end entry (omega arith) f) (unread-ended entry (omega arith) f)
+  play-is (finish e) turns w n at used arrived bytes left h f c d u l m = ended turns used arrived h (owes-end entry (omega arith) f) (f .read-is [] (omega arith))
   play-is cut turns w n at used arrived bytes left h f c d u l m = absurd (owes-something entry (omega arith) f)
   play-is (keep b p) turns w n at used arrived bytes left h f c d u l m = play-is p turns w n (suc at) used arrived (set bytes at b) left h (follows-keep entry f) (few-keep c) d u l m
   play-is (access x k) turns w n at used arrived bytes left h f c d u l m = access-plays x k (λ a. play-is (k a)) turns w n at used arrived bytes left h f c d u l m
