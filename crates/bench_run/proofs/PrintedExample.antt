@@ -1,9 +1,10 @@
--- An input that says a call, and what the bench prints for it, by layer 1: a byte read from address 0x50, whole, and with answers for its START alone.
+-- Inputs that say a call, and what the bench prints for them, by layer 1: a byte read from address 0x50, whole, and with answers for its START
+-- alone; and a call that is refused.
 -- Assumes nothing.
 use mathlib.Core.Path.{_≡_, refl, _∙_}
 use mathlib.Core.Bool.{true}
 use mathlib.Core.List.{List, [], _∷_, _++_}
-use mathlib.Core.Option.{none}
+use mathlib.Core.Option.{none, some}
 use Prim.Native.Nat.{ℕ, _≤_}
 use native.Mathlib.Omega.{arith}
 use lib.ListN.{length}
@@ -11,7 +12,10 @@ use Rattle.registers.specs.declared.register.Register.the-variants.{Ctlr1, Data
 use Rattle.registers.specs.Word.{hasBit, putBit, fieldOf, putField}
 use Rattle.registers.specs.Flags.{errorFlags, clearError}
 use Rattle.registers.specs.Addresses.{addressWord}
+use Rattle.access.specs.declared.ending.Error.the-variants.{InvalidAddress}
+use Rattle.access.specs.Endings.{failed}
 use Rattle.access.specs.Program.{checkTimeout, late}
+use Rattle.access.specs.Record.{noMore}
 use Rattle.operations.specs.Operations.{operationsOf, shaped}
 use Rattle.operations.specs.Runs.{runsOf, runsFrom}
 use Rattle.operations.specs.Search.{faultFrom}
@@ -24,10 +28,10 @@ use Rattle.bench_text.specs.Digits.{digitOf, pairOf, wordOf, glyph, wordText}
 use Rattle.bench_text.specs.Lines.{linesFrom}
 use Rattle.bench_text.specs.Forms.{wordsThenEnd, wordsOf, isHeader, headerOf, readLengthOf}
 use Rattle.bench_text.specs.Shown.{readText, writeText, arrivedText, endText, openText}
-use Rattle.bench_text.specs.Input.{Said, readsIn, answersIn, lineOf, saidWith, call, inputFrom, inputOf}
+use Rattle.bench_text.specs.Input.{Said, saidNothing, readsIn, answersIn, lineOf, saidWith, call, inputFrom, inputOf}
 use Rattle.bench_run.specs.Printed.{printedOf}
 use Rattle.bench_run.specs.Layer1.{textOf}
-use Rattle.bench_run.specs.Claims.{causeOf, ourPlay}
+use Rattle.bench_run.specs.Claims.{causeOf, ourPlay, rustPlay}
 use Rattle.bench_run.proofs.PrintsLayer1.{bench-prints}
 
 -- words, commas between them, and the line feed
@@ -89,3 +93,24 @@ module _ (read : List ℕ) (long : 65535 ≤ length read) where
 
   all-printed : printedOf (inputOf (input all)) read ≡ whole
   all-printed = bench-prints .accepted (input all) read long 0 0x50 (said all) all-said (accepted all) 52 (omega arith) ∙ all-text
+
+-- ---- a refused call: address 0x80, which the Rust refuses too
+
+-- `T,0,80`
+abbrev to80 : List ℕ
+to80 = 84 ∷ 44 ∷ 48 ∷ 44 ∷ 56 ∷ 48 ∷ 10 ∷ []
+
+to80-said : inputOf to80 ≡ call 0 0x80 saidNothing
+unfolding inputOf linesFrom inputFrom headerOf isHeader pairOf digitOf
+to80-said = refl
+
+to80-refused : causeOf 0 0x80 saidNothing ≡ some InvalidAddress
+unfolding refusal shaped
+to80-refused = refl
+
+to80-printed : (read : List ℕ) → 65535 ≤ length read → printedOf (inputOf to80) read ≡ arrivedText [] ++ endText 9 0
+to80-printed read long = bench-prints .refused to80 read long 0 0x80 saidNothing to80-said InvalidAddress to80-refused
+
+to80-rust : rustPlay 1 0 0x80 saidNothing ≡ noMore (some (failed InvalidAddress))
+unfolding refusal shaped
+to80-rust = bench-prints .rust-refuses 0 0x80 saidNothing InvalidAddress refl refl 1 (omega arith)
