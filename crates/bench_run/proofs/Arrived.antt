@@ -1,4 +1,5 @@
--- The bytes that arrive in a transaction: each answered read of DATAR is one, they lie in order from the first place on, and they fit into what is lent.
+-- The bytes that arrive in a transfer: each answered read of DATAR is one, they lie in order from the first place on, and they fit into what is
+-- lent.
 -- Assumes nothing.
 use mathlib.Core.Path.{_≡_, refl, sym, ap, _∙_, subst}
 use mathlib.Core.Bool.{Bool, true, false, cond, Bool·beq, not, _&&_, _||_, true≢false}

@@ -112,5 +112,4 @@ to80-printed : (read : List ℕ) → 65535 ≤ length read → printedOf (inputO
 to80-printed read long = bench-prints .refused to80 read long 0 0x80 saidNothing to80-said InvalidAddress to80-refused
 
 to80-rust : rustPlay 1 0 0x80 saidNothing ≡ noMore (some (failed InvalidAddress))
-unfolding refusal shaped
-to80-rust = bench-prints .rust-refuses 0 0x80 saidNothing InvalidAddress refl refl 1 (omega arith)
+to80-rust = bench-prints .rust-refuses 0 0x80 saidNothing InvalidAddress to80-refused refl 1 (omega arith)

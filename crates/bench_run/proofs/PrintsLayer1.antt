@@ -1,9 +1,9 @@
 -- The bench prints what layer 1 gives.
 -- Assumes nothing.
 use mathlib.Core.Path.{_≡_, refl, sym, ap, _∙_, subst}
-use mathlib.Core.Bool.{true, not}
+use mathlib.Core.Bool.{Bool, true, false, not, true≢false}
 use mathlib.Core.List.{List, [], map}
-use mathlib.Core.Option.{none, some}
+use mathlib.Core.Option.{Option, none, some}
 use Prim.Native.Nat.{ℕ, _+_, _*_, _%_, _<_, _≤_}
 use native.Mathlib.Nat.{zero-add}
 use native.Mathlib.Omega.{arith}
@@ -24,7 +24,7 @@ use Rattle.master.specs.declared.call.Call as master
 use Rattle.master.specs.Rust.{theRust}
 use Rattle.master.specs.Ours as parts
 use Rattle.master.specs.Machine as machine
-use Rattle.master.specs.Calls.{Lent, lentWith, refusal, shapeOf, rustWith, oursWith}
+use Rattle.master.specs.Calls.{Lent, lentWith, refuse, refusal, shapeOf, rustWith, oursWith}
 use Rattle.master.proofs.CallAgrees.{passed-cause, master-is-ours}
 use Rattle.images.specs.Numbers.{chipOf}
 use Rattle.ch32_i2c.specs.Left.{Left, refusedWith}
@@ -41,13 +41,18 @@ use Rattle.bench_run.specs.Laid.{laid}
 use Rattle.bench_run.specs.Layer1.{usedIn, bytesIn, textOf}
 use Rattle.bench_run.specs.Claims.{transactionOf, programOf, ourWords, rustWords, ourPlay, rustPlay, endingWith, causeOf, BenchPrints}
 use Rattle.bench_text.proofs.SaidLaws.{call-bounded}
-use Rattle.bench_run.proofs.SaidForm.{causes}
+use Rattle.bench_run.proofs.SaidForm.{causes, faults}
 use Rattle.bench_run.proofs.Counts.{writesIn, Few, laid-short, laid-counted}
 use Rattle.bench_run.proofs.LaidLaws.{none-laid, laid-same}
 use Rattle.bench_run.proofs.Follows.{Follows}
 use Rattle.bench_run.proofs.Played.{textFrom, play-is}
 use Rattle.bench_run.proofs.Writes.{two-writes}
 use Rattle.bench_run.proofs.Arrived.{Arrived, transfer-arrived, arrived-fits, arrived-whole}
+
+-- a cause of the Rust's is none that was added before it
+behind-added : (b : Bool) (x : Error) (rest : Option Error) (e : Error) → theRusts x ≡ false → theRusts e ≡ true → refuse b x rest ≡ some e → rest ≡ some e
+behind-added true x rest e f t q = let z : x ≡ e = cc in absurd (true≢false (sym t ∙ ap theRusts (sym z) ∙ f))
+behind-added false x rest e f t q = q
 
 -- the block that the bench lends
 abbrev zeros : List ℕ
@@ -96,9 +101,10 @@ module _ (chip address : ℕ) (s : Said) where
     as-the-rust : rustPlay turns chip address s ≡ forgetting (endAsTheRust c) (ourPlay turns chip address s)
     as-the-rust = ap (rust turns c (s .room)) same-words ∙ demand-2 .as-the-rust c (s .room) turns (ourWords turns chip address s)
 
-    rust-refuses : (e : Error) → ownRefusal c (s .room) ≡ some e → theRusts e ≡ true → 0 < turns → rustPlay turns chip address s ≡ noMore (some (failed e))
+    rust-refuses : (e : Error) → causeOf chip address s ≡ some e → theRusts e ≡ true → 0 < turns → rustPlay turns chip address s ≡ noMore (some (failed e))
     rust-refuses e q t pos =
-        let h = demand-2 .refused c (s .room) e q t turns [] pos in
+        let o = behind-added (unknown c) InvalidArgument (ownRefusal c (s .room)) e refl t (behind-added (not (eqb blockSize blockSize)) InvalidState _ e refl t q) in
+        let h = demand-2 .refused c (s .room) e o t turns [] pos in
         ap (rust turns c (s .room)) (none-laid rustProgram 0 (ap (λ (x : Shown). x .events) (sym (rust-program []) ∙ h)) (s .answers)) ∙ h
 
   -- ---- an accepted call
@@ -200,6 +206,7 @@ bench-prints =
       refused = refused-prints;
       rust-refuses = λ chip address s e q t turns pos. rust-refuses chip address s turns e q t pos;
       causes = causes;
+      faults = faults;
       bad = λ text read k e. ap (λ (i : Input). printedOf i read) e;
       few = λ chip address s q turns h. subst (λ (x : Shown). length (ourWords turns chip address s) ≤ 3 * usedIn (x .events)) (sym (ours-program chip address s turns (ourWords turns chip address s))) (few chip address s q turns h);
       used = λ turns chip address s. used chip address s turns;

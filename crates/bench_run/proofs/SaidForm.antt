@@ -1,20 +1,21 @@
 -- The list that an input says is in form, and the bytes lent with it are the list's: so its call is refused for its address, for the number of
 -- its operations, or for the list's first fault, and for nothing else.
 -- Assumes nothing.
-use mathlib.Core.Path.{_≡_, refl, sym, ap, _∙_}
-use mathlib.Core.Bool.{Bool, true, false, cond, true≢false}
+use mathlib.Core.Path.{_≡_, refl, sym, ap, _∙_, subst}
+use mathlib.Core.Bool.{Bool, true, false, cond, _||_, true≢false}
 use mathlib.Core.List.{List, [], _∷_, _++_}
 use mathlib.Core.Option.{Option, none, some}
 use Prim.Native.Nat.{ℕ, _+_, _/_, _%_, _≤_}
 use native.Mathlib.Omega.{arith}
 use borrow.Author.Tests.{le-ltb, eq-eqb}
-use lib.Dec.{ltb}
+use lib.Dec.{eqb, ltb}
 use lib.ListN.{length, length-append}
 use Rattle.access.specs.declared.ending.Error.{Error}
-use Rattle.access.specs.declared.ending.Error.the-variants.{InvalidAddress, TooManyOperations, LengthMismatch}
+use Rattle.access.specs.declared.ending.Error.the-variants.{Overrun, BufferTooLong, InvalidAddress, TooManyOperations, LengthMismatch, InvalidArgument}
+use Rattle.access.specs.Endings.{errorNumber}
 use Rattle.access.proofs.Choice.{chosen}
 use Rattle.operations.specs.declared.operation.Operation.{Operation}
-use Rattle.operations.specs.Operations.{operationOf, operationsOf, shaped}
+use Rattle.operations.specs.Operations.{wordOf, operationOf, emptyRead, operationsOf, shaped}
 use Rattle.operations.specs.Runs.{Span, writtenIn, readIn, sumOf, writtenSum, readSum, runsOf}
 use Rattle.operations.specs.Search.{faultFrom}
 use Rattle.operations.proofs.SumLaws.{spanOf, eachSpan, written-runs, read-runs, fault-free-small}
@@ -54,6 +55,22 @@ module _ (d a b : ℕ) where
 sum-more : (count : Span → ℕ) (os : List Operation) (o : Operation) → sumOf count (eachSpan (os ++ (o ∷ []))) ≡ sumOf count (eachSpan os) + count (spanOf o)
 sum-more count [] o = omega arith
 sum-more count (x ∷ os) o = omega (arith, sum-more count os o)
+
+-- whole operations with known directions: what is left of a list's faults
+fault-is : (l : List ℕ) (t : ℕ) (e : Error) → shaped l ≡ true → faultFrom t l ≡ some e → eqb (errorNumber e) 6 || eqb (errorNumber e) 8 ≡ true
+unfolding shaped faultFrom
+fault-is [] t e h q = let z : _≡_ {A = ℕ} 0 1 = cc in absurd (omega arith)
+fault-is (d ∷ []) t e h q = absurd (true≢false (sym h))
+fault-is (d ∷ a ∷ []) t e h q = absurd (true≢false (sym h))
+fault-is (d ∷ a ∷ b ∷ l) t e h q = go (ltb 1 d) (emptyRead (operationOf d a b)) (ltb 65535 (t + wordOf a b)) h q (fault-is l (t + wordOf a b) e)
+  where
+    go : (large empty long : Bool) → cond large false (shaped l) ≡ true
+        → cond large (some InvalidArgument) (cond empty (some Overrun) (cond long (some BufferTooLong) (faultFrom (t + wordOf a b) l))) ≡ some e
+        → (shaped l ≡ true → faultFrom (t + wordOf a b) l ≡ some e → eqb (errorNumber e) 6 || eqb (errorNumber e) 8 ≡ true) → eqb (errorNumber e) 6 || eqb (errorNumber e) 8 ≡ true
+    go true y z h q again = absurd (true≢false (sym h))
+    go false true z h q again = let x : Overrun ≡ e = cc in subst (λ (x : Error). eqb (errorNumber x) 6 || eqb (errorNumber x) 8 ≡ true) x refl
+    go false false true h q again = let x : BufferTooLong ≡ e = cc in subst (λ (x : Error). eqb (errorNumber x) 6 || eqb (errorNumber x) 8 ≡ true) x refl
+    go false false false h q again = again h q
 
 -- ---- what the lines say
 
@@ -116,3 +133,6 @@ module _ (text : List ℕ) (chip address : ℕ) (s : Said) (e : inputOf text ≡
   pub causes : causeOf chip address s ≡ refuse (ltb 127 address) InvalidAddress (refuse (ltb 768 (length (s .list))) TooManyOperations (faultFrom 0 (s .list)))
   unfolding refusal
   causes = rw (le-ltb 3 chip (both .0), both .1 .shape, lent-is (faultFrom 0 (s .list)) refl)
+
+  pub faults : (x : Error) → faultFrom 0 (s .list) ≡ some x → eqb (errorNumber x) 6 || eqb (errorNumber x) 8 ≡ true
+  faults x q = fault-is (s .list) 0 x (both .1 .shape) q

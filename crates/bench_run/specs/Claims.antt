@@ -1,15 +1,15 @@
 -- What is claimed of the bench: it prints what layer 1 gives for the transaction that its input says, whole.
 use mathlib.Core.Path.{_≡_}
-use mathlib.Core.Bool.{true}
+use mathlib.Core.Bool.{true, _||_}
 use mathlib.Core.List.{List, map}
 use mathlib.Core.Option.{Option, none, some}
 use Prim.Native.Nat.{ℕ, _*_, _%_, _<_, _≤_}
-use lib.Dec.{ltb}
+use lib.Dec.{eqb, ltb}
 use lib.ListN.{length}
 use Rattle.access.specs.declared.ending.Ending.{Ending}
 use Rattle.access.specs.declared.ending.Error.{Error}
 use Rattle.access.specs.declared.ending.Error.the-variants.{InvalidAddress, TooManyOperations}
-use Rattle.access.specs.Endings.{done, failed}
+use Rattle.access.specs.Endings.{errorNumber, done, failed}
 use Rattle.access.specs.Program.{Program}
 use Rattle.access.specs.Program as program
 use Rattle.access.specs.Record.{Shown, noMore, shownOf}
@@ -22,7 +22,7 @@ use Rattle.master.specs.Ours as parts
 use Rattle.master.specs.Calls.{lentWith, function, refuse}
 use Rattle.images.specs.Numbers.{chipOf}
 use Rattle.ch32_i2c.specs.Fed.{payloadIn, recordIn}
-use Rattle.ch32_i2c.specs.Demands.{Call, transaction, refusalOf, ownRefusal, theRusts, endAsTheRust, ours, rust}
+use Rattle.ch32_i2c.specs.Demands.{Call, transaction, refusalOf, theRusts, endAsTheRust, ours, rust}
 use Rattle.bench_text.specs.Shown.{badText}
 use Rattle.bench_text.specs.Input.{Said, badLine, call, inputOf}
 use Rattle.bench_run.specs.Play.{mostTurns}
@@ -71,14 +71,15 @@ pub record BenchPrints : Type 0 where
   -- a refused one: no access, no byte, and the number of the cause; 6 and 9 are the Rust's too
   pub refused : (text read : List ℕ) → 65535 ≤ length read → (chip address : ℕ) (s : Said) → inputOf text ≡ call chip address s → (e : Error) → causeOf chip address s ≡ some e
       → printedOf (inputOf text) read ≡ textOf (noMore (some (failed e)))
-  pub rust-refuses : (chip address : ℕ) (s : Said) (e : Error) → ownRefusal (transactionOf chip address s) (s .room) ≡ some e → theRusts e ≡ true
-      → (turns : ℕ) → 0 < turns → rustPlay turns chip address s ≡ noMore (some (failed e))
-  -- the causes: the address, more than 256 operations, the list's first fault. That no more than 65,535 bytes are lent to read adds none
+  pub rust-refuses : (chip address : ℕ) (s : Said) (e : Error) → causeOf chip address s ≡ some e → theRusts e ≡ true → (turns : ℕ) → 0 < turns → rustPlay turns chip address s ≡ noMore (some (failed e))
+  -- the causes: the address, more than 256 operations, the list's first fault, which is 6 or 8. That no more than 65,535 bytes are lent to read
+  -- adds none
   pub causes : (text : List ℕ) (chip address : ℕ) (s : Said) → inputOf text ≡ call chip address s
       → causeOf chip address s ≡ refuse (ltb 127 address) InvalidAddress (refuse (ltb 768 (length (s .list))) TooManyOperations (faultFrom 0 (s .list)))
+  pub faults : (text : List ℕ) (chip address : ℕ) (s : Said) → inputOf text ≡ call chip address s → (e : Error) → faultFrom 0 (s .list) ≡ some e → eqb (errorNumber e) 6 || eqb (errorNumber e) 8 ≡ true
   -- no call at all
   pub bad : (text read : List ℕ) (k : ℕ) → inputOf text ≡ badLine k → printedOf (inputOf text) read ≡ badText k
-  -- the limit: at most three accesses for each answer that is used, and three for each that is given are fewer than 16,384
+  -- the limit: at most three accesses are made for each answer that is used, and three for each that is given are fewer than 16,384
   pub few : (chip address : ℕ) (s : Said) → causeOf chip address s ≡ none → (turns : ℕ) → 3 * length (s .answers) < turns
       → length (ourWords turns chip address s) ≤ 3 * usedIn (ourPlay turns chip address s .events)
   pub used : (turns chip address : ℕ) (s : Said) → usedIn (ourPlay turns chip address s .events) ≤ length (s .answers)

@@ -3,7 +3,6 @@ use mathlib.Core.Bool.{Bool, true, false}
 use mathlib.Core.List.{List, [], _∷_}
 use Prim.Native.Nat.{ℕ}
 use Rattle.access.specs.Program.{Access, read, write, send, clock, Program, finish, access, keep, cut}
-use Rattle.access.specs.Record.{Shown, shownOf}
 
 abbrev pub takesAnswer : Access → Bool
 takesAnswer (read r) = true
@@ -16,8 +15,8 @@ abbrev pub nextAnswer : List ℕ → ℕ
 nextAnswer [] = 0
 nextAnswer (a ∷ answers) = a
 
--- an access with the word that it gets and the answers that are left then. A read or a question takes the next answer, if there is one. A write
--- takes none: it is shown the next, which no text looks at
+-- what goes on with the word of an access and the answers that are left then. A read or a question takes the next answer, if there is one. A
+-- write takes none: its word is the next answer, which stays unread, since no text looks at the word of a write
 abbrev pub handed : Bool → List ℕ → (ℕ → List ℕ → List ℕ) → List ℕ
 handed true [] go = []
 handed true (a ∷ answers) go = go a answers
@@ -29,7 +28,3 @@ laid (finish e) answers = []
 laid (access x k) answers = handed (takesAnswer x) answers (λ a left. a ∷ laid (k a) left)
 laid (keep b p) answers = laid p answers
 laid cut answers = []
-
--- what is seen of a program on the answers of an input
-abbrev pub played : Program → List ℕ → Shown
-played p answers = shownOf 0 p (laid p answers)
