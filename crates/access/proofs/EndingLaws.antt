@@ -21,39 +21,35 @@ use Rattle.access.proofs.Compared.{turned, itself}
 -- an error by its number
 record ErrorBack (e : Error) : Type 0 where
   back : endingOf (errorNumber e) 0 0 ≡ failed e
-  above : 0 < errorNumber e
   below : errorNumber e < 256
 
 error-back : (e : Error) → ErrorBack e
-error-back Bus = record { back = refl; above = omega arith; below = omega arith }
-error-back Arbitration = record { back = refl; above = omega arith; below = omega arith }
-error-back Nack = record { back = refl; above = omega arith; below = omega arith }
-error-back Timeout = record { back = refl; above = omega arith; below = omega arith }
-error-back Crc = record { back = refl; above = omega arith; below = omega arith }
-error-back Overrun = record { back = refl; above = omega arith; below = omega arith }
-error-back BufferTooLong = record { back = refl; above = omega arith; below = omega arith }
-error-back InvalidAddress = record { back = refl; above = omega arith; below = omega arith }
-error-back InvalidFrequency = record { back = refl; above = omega arith; below = omega arith }
-error-back DividerTooLarge = record { back = refl; above = omega arith; below = omega arith }
-error-back InputTooSlow = record { back = refl; above = omega arith; below = omega arith }
-error-back TooManyOperations = record { back = refl; above = omega arith; below = omega arith }
-error-back LengthMismatch = record { back = refl; above = omega arith; below = omega arith }
-error-back InvalidState = record { back = refl; above = omega arith; below = omega arith }
-error-back InvalidArgument = record { back = refl; above = omega arith; below = omega arith }
-error-back ReservedAddress = record { back = refl; above = omega arith; below = omega arith }
-error-back BlockLength = record { back = refl; above = omega arith; below = omega arith }
-error-back WrongCode = record { back = refl; above = omega arith; below = omega arith }
-error-back NoSuchSpeed = record { back = refl; above = omega arith; below = omega arith }
-error-back NoAllowance = record { back = refl; above = omega arith; below = omega arith }
-error-back TooManyBuses = record { back = refl; above = omega arith; below = omega arith }
-error-back TooManyItems = record { back = refl; above = omega arith; below = omega arith }
-error-back NoOrder = record { back = refl; above = omega arith; below = omega arith }
-error-back NoSuchDate = record { back = refl; above = omega arith; below = omega arith }
-error-back WrongDate = record { back = refl; above = omega arith; below = omega arith }
-error-back MapLength = record { back = refl; above = omega arith; below = omega arith }
-
-pub error-above : (e : Error) → 0 < errorNumber e
-error-above e = error-back e .above
+error-back Bus = record { back = refl; below = omega arith }
+error-back Arbitration = record { back = refl; below = omega arith }
+error-back Nack = record { back = refl; below = omega arith }
+error-back Timeout = record { back = refl; below = omega arith }
+error-back Crc = record { back = refl; below = omega arith }
+error-back Overrun = record { back = refl; below = omega arith }
+error-back BufferTooLong = record { back = refl; below = omega arith }
+error-back InvalidAddress = record { back = refl; below = omega arith }
+error-back InvalidFrequency = record { back = refl; below = omega arith }
+error-back DividerTooLarge = record { back = refl; below = omega arith }
+error-back InputTooSlow = record { back = refl; below = omega arith }
+error-back TooManyOperations = record { back = refl; below = omega arith }
+error-back LengthMismatch = record { back = refl; below = omega arith }
+error-back InvalidState = record { back = refl; below = omega arith }
+error-back InvalidArgument = record { back = refl; below = omega arith }
+error-back ReservedAddress = record { back = refl; below = omega arith }
+error-back BlockLength = record { back = refl; below = omega arith }
+error-back WrongCode = record { back = refl; below = omega arith }
+error-back NoSuchSpeed = record { back = refl; below = omega arith }
+error-back NoAllowance = record { back = refl; below = omega arith }
+error-back TooManyBuses = record { back = refl; below = omega arith }
+error-back TooManyItems = record { back = refl; below = omega arith }
+error-back NoOrder = record { back = refl; below = omega arith }
+error-back NoSuchDate = record { back = refl; below = omega arith }
+error-back WrongDate = record { back = refl; below = omega arith }
+error-back MapLength = record { back = refl; below = omega arith }
 
 pub ending-back : (e : Ending) → endingOf (endingError e) (endingValue e) (endingExtra e) ≡ e
 ending-back (Done o) = refl

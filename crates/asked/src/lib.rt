@@ -13,8 +13,8 @@ use access::Ending;
 use access::Error;
 use access::Need;
 use access::ending;
+use block::at;
 use block::bytes32;
-use images::end_image;
 use registers::Register;
 use registers::register;
 
@@ -97,9 +97,9 @@ pub fn ended(block: &[u8]) -> u64
     ensures { λ r. ⌜ ((e : Ending) → KeepsEnd (now (block .entry)) e → Asks r (need.End e)) ⌝ }
 {
     ending::words_number(
-        block[end_image::ERROR],
-        bytes32::word_at(block, end_image::VALUE),
-        bytes32::word_at(block, end_image::EXTRA),
+        block[at::ERROR],
+        bytes32::word_at(block, at::VALUE),
+        bytes32::word_at(block, at::EXTRA),
     )
 }
 

@@ -7,14 +7,8 @@ ghost use Rattle.block.specs.Bytes32.{blockSize, bytesOf};
 ghost use Rattle.images.specs.EndImage.{endingAt, isEndingAt, isPlainAt, withEnd};
 use access::Ending;
 use access::ending;
+use block::at;
 use block::bytes32;
-
-// Where the words stand (docs/STATE.md).
-pub const ERROR: usize = 7;
-
-pub const VALUE: usize = 22;
-
-pub const EXTRA: usize = 30;
 
 // The block says this ending.
 pub fn put(block: &mut [u8], ending: Ending)
@@ -24,9 +18,9 @@ pub fn put(block: &mut [u8], ending: Ending)
 {
     let value = ending::ending_value(ending);
     let extra = ending::ending_extra(ending);
-    block[ERROR] = ending::ending_error(ending);
-    bytes32::put_word(block, VALUE, value);
-    bytes32::put_word(block, EXTRA, extra);
+    block[at::ERROR] = ending::ending_error(ending);
+    bytes32::put_word(block, at::VALUE, value);
+    bytes32::put_word(block, at::EXTRA, extra);
 }
 
 // Whether its words are an ending's.
@@ -35,9 +29,9 @@ pub fn is_ending(block: &[u8]) -> bool
     ensures { λ r. ⌜ r ≡ isEndingAt (now (block .entry)) ⌝ }
 {
     ending::is_ending(
-        block[ERROR],
-        bytes32::word_at(block, VALUE),
-        bytes32::word_at(block, EXTRA),
+        block[at::ERROR],
+        bytes32::word_at(block, at::VALUE),
+        bytes32::word_at(block, at::EXTRA),
     )
 }
 
@@ -46,9 +40,9 @@ pub fn is_plain(block: &[u8]) -> bool
     ensures { λ r. ⌜ r ≡ isPlainAt (now (block .entry)) ⌝ }
 {
     ending::is_plain(
-        block[ERROR],
-        bytes32::word_at(block, VALUE),
-        bytes32::word_at(block, EXTRA),
+        block[at::ERROR],
+        bytes32::word_at(block, at::VALUE),
+        bytes32::word_at(block, at::EXTRA),
     )
 }
 
@@ -58,9 +52,9 @@ pub fn is_done(block: &[u8]) -> bool
     ensures { λ r. ⌜ r ≡ isDone (endingAt (now (block .entry))) ⌝ }
 {
     ending::is_done(
-        block[ERROR],
-        bytes32::word_at(block, VALUE),
-        bytes32::word_at(block, EXTRA),
+        block[at::ERROR],
+        bytes32::word_at(block, at::VALUE),
+        bytes32::word_at(block, at::EXTRA),
     )
 }
 
@@ -70,8 +64,8 @@ pub fn has_failed(block: &[u8]) -> bool
     ensures { λ r. ⌜ r ≡ hasFailed (endingAt (now (block .entry))) ⌝ }
 {
     ending::has_failed(
-        block[ERROR],
-        bytes32::word_at(block, VALUE),
-        bytes32::word_at(block, EXTRA),
+        block[at::ERROR],
+        bytes32::word_at(block, at::VALUE),
+        bytes32::word_at(block, at::EXTRA),
     )
 }

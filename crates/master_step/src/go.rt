@@ -15,6 +15,8 @@ use crate::put;
 use crate::stage;
 use access::Ending;
 use access::Failure;
+use block::at;
+use block::bytes32;
 use images::end_image;
 use registers::Register;
 
@@ -45,7 +47,7 @@ pub fn keeps(block: &mut [u8], group: u8, phase: u8) -> u64
     ensures { λ _. ⌜ Puts (now (block .entry)) (now (block .exit)) (λ (d : Progress). d) (λ (_ : ℕ). group) (λ (_ : ℕ). 0) (λ (_ : ℕ). phase) ⌝ }
     ensures { λ r. ⌜ ((c : Call) (d : Progress) (g w p : ℕ) → now (block .entry) ≡ blockAt c d g w p → Asks r (need.Keep (d .place))) ⌝ }
 {
-    let place = put::word_at(block, put::PLACE);
+    let place = bytes32::word_at(block, at::PLACE);
     put::to(block, group, 0, phase);
     asked::keep(place)
 }

@@ -11,8 +11,9 @@ ghost use Rattle.master.specs.Fits.{counts};
 ghost use Rattle.master_step.specs.Going.{hereIn};
 ghost use Rattle.master_step.specs.Held.{blockAt, readyAt};
 use crate::here::Here;
-use crate::put;
 use crate::stage;
+use block::at;
+use block::bytes32;
 use images::end_image;
 use images::numbers;
 
@@ -21,8 +22,8 @@ fn counts(block: &[u8], here: Here, left: u16) -> bool
     requires { ⌜ length (now block) ≡ blockSize ⌝ }
     ensures { λ t. ⌜ ((c : Call) (r : Run) (d : Progress) (g w p : ℕ) → now (block .entry) ≡ blockAt c d g w p → here ≡ hereIn c r (isRead (r .direction)) → left ≡ d .left → t ≡ counts r d) ⌝ }
 {
-    let place = put::word_at(block, put::PLACE);
-    (block[put::MARKS] == numbers::flag_number(here.reading))
+    let place = bytes32::word_at(block, at::PLACE);
+    (block[at::MARKS] == numbers::flag_number(here.reading))
         & ((left <= here.length)
             & (place as u32 + left as u32 == here.before as u32 + here.length as u32))
 }

@@ -67,9 +67,6 @@ goes {g} {after} {asked} e m = subst (λ (z : Move). Moves g z after asked) e m
 word-back : (n : ℕ) → n % 256 + n / 256 * 256 ≡ n
 word-back n = omega arith
 
-long-back : (n : ℕ) → n % 65536 + n / 65536 * 65536 ≡ n
-long-back n = omega arith
-
 module _ (g : Setting) (d : Progress) (n w p : ℕ) where
   pub word-at : wordAt (blockAt g d n w p) 16 ≡ d .word
   unfolding blockAt bytesOf fieldsAt

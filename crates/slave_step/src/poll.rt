@@ -18,6 +18,8 @@ use crate::stage;
 use access::Error;
 use access::ending;
 use access::next;
+use block::at;
+use block::bytes32;
 use errors::Checked;
 use images::end_image;
 use images::numbers;
@@ -167,8 +169,8 @@ fn judged(block: &mut [u8]) -> u64
     requires { ⌜ length (now block) ≡ blockSize ⌝ }
     ensures { λ r. ⌜ ((g : Setting) (d : Progress) (p : ℕ) → now (block .entry) ≡ blockAt g d 8 0 p → Moves g (checkErrorsAndTime (g .chip) errors.Clear d 0) (now (block .exit)) r) ⌝ }
 {
-    let status = put::word_at(block, put::WORD);
-    let chip = numbers::chip_of(block[put::CHIP]);
+    let status = bytes32::word_at(block, at::WORD);
+    let chip = numbers::chip_of(block[at::CHIP]);
     match errors::error_of(status, chip, false) {
         Checked::Fine => {
             put::phase(block, stage::ERRORS_CLOCK);

@@ -11,6 +11,7 @@ ghost use Rattle.slave.specs.Fits.{limit, canReturn, returnsIn};
 ghost use Rattle.slave_step.specs.Held.{settingAt, closing, readyAt};
 use crate::poll;
 use crate::stage;
+use block::at;
 use block::bytes32;
 use images::end_image;
 use images::numbers;
@@ -45,13 +46,7 @@ fn returns(block: &[u8], entry: u8, size: u16, count: u32) -> bool
     requires { ⌜ length (now block) ≡ blockSize ⌝ }
     ensures { λ r. ⌜ r ≡ returnsIn (kindOf entry) size count (endingAt (now (block .entry))) ⌝ }
 {
-    (block[end_image::ERROR] == 0)
-        & can_return(
-            entry,
-            size,
-            count,
-            bytes32::word_at(block, end_image::VALUE),
-        )
+    (block[at::ERROR] == 0) & can_return(entry, size, count, bytes32::word_at(block, at::VALUE))
 }
 
 // The stages in which what is to be returned is known: STOPF is cleared at the end of a response, or AF.
