@@ -2,8 +2,10 @@
 use mathlib.Core.Bool.{Bool, true, false}
 use mathlib.Core.List.{List, [], _∷_}
 use mathlib.Core.Option.{none, some}
-use Prim.Native.Nat.{ℕ, _%_}
+use Prim.Native.Nat.{ℕ}
 use lib.ListN.{getD, set}
+use Rattle.registers.specs.Word.{fieldOf}
+use Rattle.registers.specs.Fields.{DATA}
 use Rattle.registers.specs.declared.register.Register.the-variants.{Datar}
 use Rattle.access.specs.declared.need.Need.{Need}
 use Rattle.access.specs.declared.need.Need.the-variants as need
@@ -33,7 +35,7 @@ kept (need.Read r) a bytes = bytes
 kept (need.Write r v) a bytes = bytes
 kept need.Clock a bytes = bytes
 kept (need.Send p) a bytes = bytes
-kept (need.Keep p) a bytes = set bytes p (a % 256)
+kept (need.Keep p) a bytes = set bytes p (fieldOf DATA a)
 kept need.Drop a bytes = bytes
 kept (need.End e) a bytes = bytes
 
@@ -53,7 +55,7 @@ seenAnswered bytes (need.Read r) a rest = event (read r) (some a) rest
 seenAnswered bytes (need.Write r v) a rest = event (write r v) none rest
 seenAnswered bytes need.Clock a rest = event clock (some a) rest
 seenAnswered bytes (need.Send p) a rest = event (send (getD bytes p 0)) none rest
-seenAnswered bytes (need.Keep p) a rest = event (read Datar) (some a) (arrival p (a % 256) rest)
+seenAnswered bytes (need.Keep p) a rest = event (read Datar) (some a) (arrival p (fieldOf DATA a) rest)
 seenAnswered bytes need.Drop a rest = event (read Datar) (some a) rest
 seenAnswered bytes (need.End e) a rest = noMore (some e)
 

@@ -4,13 +4,15 @@
 use mathlib.Core.Path.{_≡_, refl, sym, ap, _∙_, subst}
 use mathlib.Core.Bool.{Bool, true, false, cond, Bool·beq, not, _&&_, _||_, true≢false}
 use mathlib.Core.List.{List, [], _∷_, _++_, map, append-assoc, append-nil}
-use Prim.Native.Nat.{ℕ, zero, suc, _+_, _%_, _≤_, _<_}
+use Prim.Native.Nat.{ℕ, zero, suc, _+_, _≤_, _<_}
 use native.Mathlib.Nat.{add-zero, zero-add}
 use native.Mathlib.Omega.{arith}
 use borrow.Author.Tests.{ltb-true, eqb-true}
 use lib.Dec.{eqb, leb, ltb}
 use lib.ListN.{length, take, set, length-set}
 use lib.Seq.{take-suc-set}
+use Rattle.registers.specs.Word.{fieldOf}
+use Rattle.registers.specs.Fields.{DATA}
 use Rattle.access.specs.declared.need.Need.{Need}
 use Rattle.access.specs.declared.need.Need.the-variants as need
 use Rattle.access.specs.Endings.{isDone}
@@ -205,7 +207,7 @@ module _ (ss : List Span) (g : Setting) where
 pub record Arrived (room : ℕ) (s : Shown) : Type 0 where
   pub within : Within room (s .arrivals)
   pub counted : arrivingIn (s .events) ≡ length (s .arrivals)
-  pub payload : bytesIn (s .arrivals) ≡ map (λ (a : ℕ). a % 256) (payloadIn (recordIn s))
+  pub payload : bytesIn (s .arrivals) ≡ map (fieldOf DATA) (payloadIn (recordIn s))
 
 module _ (m : Machine) (bytes : List ℕ) (room : ℕ) (Good : m .State → Type 0) (stays : (s : m .State) (a : ℕ) → Good s → Good (m .move s a)) (told : (s : m .State) → Good s → Told room (m .need s)) where
   owed-arrived : (n : Need) → Told room n → Arrived room (seenOwed bytes n)
@@ -222,7 +224,7 @@ module _ (m : Machine) (bytes : List ℕ) (room : ℕ) (Good : m .State → Type
   answered-arrived (need.Write r v) a rest t h = record { within = h .within; counted = zero-add (arrivingIn (rest .events)) ∙ h .counted; payload = h .payload }
   answered-arrived need.Clock a rest t h = record { within = h .within; counted = zero-add (arrivingIn (rest .events)) ∙ h .counted; payload = h .payload }
   answered-arrived (need.Send p) a rest t h = record { within = h .within; counted = zero-add (arrivingIn (rest .events)) ∙ h .counted; payload = h .payload }
-  answered-arrived (need.Keep p) a rest t h = record { within = (t, h .within); counted = omega (arith, h .counted); payload = ap (λ (l : List ℕ). a % 256 ∷ l) (h .payload) }
+  answered-arrived (need.Keep p) a rest t h = record { within = (t, h .within); counted = omega (arith, h .counted); payload = ap (λ (l : List ℕ). fieldOf DATA a ∷ l) (h .payload) }
   answered-arrived need.Drop a rest t h = absurd t
   answered-arrived (need.End e) a rest t h = record { within = tt; counted = refl; payload = refl }
 

@@ -4,12 +4,14 @@ use mathlib.Core.Path.{_≡_, refl, sym, ap, _∙_, subst}
 use mathlib.Core.Bool.{Bool, true, false, not, true≢false}
 use mathlib.Core.List.{List, [], map}
 use mathlib.Core.Option.{Option, none, some}
-use Prim.Native.Nat.{ℕ, _+_, _*_, _%_, _<_, _≤_}
+use Prim.Native.Nat.{ℕ, _+_, _*_, _<_, _≤_}
 use native.Mathlib.Nat.{zero-add}
 use native.Mathlib.Omega.{arith}
 use lib.Dec.{eqb}
 use lib.ListN.{length, take, replicate}
 use lib.Seq.{length-take-le}
+use Rattle.registers.specs.Word.{fieldOf}
+use Rattle.registers.specs.Fields.{DATA}
 use Rattle.access.specs.declared.ending.Error.{Error}
 use Rattle.access.specs.declared.ending.Error.the-variants.{InvalidState, InvalidArgument}
 use Rattle.access.specs.Endings.{failed}
@@ -218,7 +220,7 @@ bench-prints =
       room = λ text chip address s e. call-bounded text chip address s e .room;
       payload =
           λ chip address s q turns h.
-          subst (λ (x : Shown). bytesIn (x .arrivals) ≡ map (λ (a : ℕ). a % 256) (payloadIn (recordIn x))) (sym (ours-program chip address s turns (ourWords turns chip address s)))
+          subst (λ (x : Shown). bytesIn (x .arrivals) ≡ map (fieldOf DATA) (payloadIn (recordIn x))) (sym (ours-program chip address s turns (ourWords turns chip address s)))
           (played-arrived chip address s q turns h .payload);
       our-program = λ turns chip address s words. ours-program chip address s turns words;
       rust-program = λ turns chip address s words. rust-program chip address s turns words;

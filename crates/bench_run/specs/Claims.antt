@@ -3,9 +3,11 @@ use mathlib.Core.Path.{_≡_}
 use mathlib.Core.Bool.{true, _||_}
 use mathlib.Core.List.{List, map}
 use mathlib.Core.Option.{Option, none, some}
-use Prim.Native.Nat.{ℕ, _*_, _%_, _<_, _≤_}
+use Prim.Native.Nat.{ℕ, _*_, _<_, _≤_}
 use lib.Dec.{eqb, ltb}
 use lib.ListN.{length}
+use Rattle.registers.specs.Word.{fieldOf}
+use Rattle.registers.specs.Fields.{DATA}
 use Rattle.access.specs.declared.ending.Ending.{Ending}
 use Rattle.access.specs.declared.ending.Error.{Error}
 use Rattle.access.specs.declared.ending.Error.the-variants.{InvalidAddress, TooManyOperations}
@@ -88,7 +90,7 @@ pub record BenchPrints : Type 0 where
   pub within : (chip address : ℕ) (s : Said) → causeOf chip address s ≡ none → (turns : ℕ) → 3 * length (s .answers) < turns → length (ourPlay turns chip address s .arrivals) ≤ s .room
   pub room : (text : List ℕ) (chip address : ℕ) (s : Said) → inputOf text ≡ call chip address s → s .room ≤ 65535
   pub payload : (chip address : ℕ) (s : Said) → causeOf chip address s ≡ none → (turns : ℕ) → 3 * length (s .answers) < turns
-      → bytesIn (ourPlay turns chip address s .arrivals) ≡ map (λ (a : ℕ). a % 256) (payloadIn (recordIn (ourPlay turns chip address s)))
+      → bytesIn (ourPlay turns chip address s .arrivals) ≡ map (fieldOf DATA) (payloadIn (recordIn (ourPlay turns chip address s)))
   -- the programs along which the answers are laid are those of the demands' texts
   pub our-program : (turns chip address : ℕ) (s : Said) (words : List ℕ) → ours turns (transactionOf chip address s) (s .room) words ≡ shownOf 0 (programOf (parts.ours (chipOf chip)) turns chip address s) words
   pub rust-program : (turns chip address : ℕ) (s : Said) (words : List ℕ) → rust turns (transactionOf chip address s) (s .room) words ≡ shownOf 0 (programOf (theRust (chipOf chip)) turns chip address s) words
