@@ -5,10 +5,12 @@ use mathlib.Core.Path.{_≡_, refl, sym, ap, _∙_, subst}
 use mathlib.Core.Bool.{Bool, true, false, cond}
 use mathlib.Core.List.{List, [], _∷_}
 use mathlib.Core.Option.{none, some}
-use Prim.Native.Nat.{ℕ, zero, suc, _%_, _<_}
+use Prim.Native.Nat.{ℕ, zero, suc, _<_}
 use native.Mathlib.Nat.{not-suc-le-zero, le-of-suc-le-suc}
 use native.Mathlib.Omega.{arith}
 use lib.ListN.{length, getD}
+use Rattle.registers.specs.Word.{fieldOf}
+use Rattle.registers.specs.Fields.{DATA}
 use Rattle.registers.specs.declared.register.Register.{Register}
 use Rattle.registers.specs.declared.register.Register.the-variants.{Datar}
 use Rattle.access.specs.declared.ending.Ending.{Ending}
@@ -78,9 +80,9 @@ module _ {m : Machine} {bytes : List ℕ} {at : ℕ} where
 
   -- a byte that is read and kept: its place is the number of those before it
   pub keeps : {n : ℕ} {k : ℕ → Program} {s : m .State} → m .need s ≡ need.Keep at
-      → ((a : ℕ) → Agree m bytes n (suc at) (k a) (m .move s a)) → Agree m bytes n at (access (read Datar) (λ a. keep (a % 256) (k a))) s
+      → ((a : ℕ) → Agree m bytes n (suc at) (k a) (m .move s a)) → Agree m bytes n at (access (read Datar) (λ a. keep (fieldOf DATA a) (k a))) s
   keeps q f =
-      weaken (by-need (need.Keep at) q refl (λ a answers h. ap (λ r. event (read Datar) (some a) (arrival at (a % 256) r)) (f a .same answers h)))
+      weaken (by-need (need.Keep at) q refl (λ a answers h. ap (λ r. event (read Datar) (some a) (arrival at (fieldOf DATA a) r)) (f a .same answers h)))
 
   -- both go by the same test
   pub cases : {n : ℕ} {p q : Program} {s t : m .State} (b : Bool) → Agree m bytes n at p s → Agree m bytes n at q t

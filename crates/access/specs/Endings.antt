@@ -1,6 +1,6 @@
 -- How a call ends, and document 01's number for it.
-use Prim.Native.Nat.{ℕ, _+_, _*_}
-use mathlib.Core.Bool.{Bool, false, cond}
+use Prim.Native.Nat.{ℕ, _+_, _*_, _/_, _%_}
+use mathlib.Core.Bool.{Bool, false, cond, _&&_, _||_}
 use lib.Dec.{eqb, leb}
 use Rattle.access.specs.declared.ending.Error.{Error}
 use Rattle.access.specs.declared.ending.Error.the-variants.{Bus, Arbitration, Nack, Timeout, Crc, Overrun, BufferTooLong, InvalidAddress, InvalidFrequency, DividerTooLarge, InputTooSlow, TooManyOperations, LengthMismatch, InvalidState, InvalidArgument, ReservedAddress, BlockLength, WrongCode, NoSuchSpeed, NoAllowance, TooManyBuses, TooManyItems, NoOrder, NoSuchDate, WrongDate, MapLength}
@@ -49,7 +49,8 @@ done = returned 0
 abbrev pub failed : Error → Ending
 failed e = Failed (failureOf e)
 
--- AN END IN WORDS, for C's number and for the block of a call: the number of its error, or 0, and the value that it returns
+-- AN END IN WORDS, for C's number and for the block of a call: the number of its error, or 0; the value that it returns; and one number more,
+-- in which an end says what else there is to know. No end has anything there yet.
 abbrev pub endingError : Ending → ℕ
 endingError (Done o) = 0
 endingError (Failed f) = errorNumber (f .error)
@@ -58,11 +59,22 @@ abbrev pub endingValue : Ending → ℕ
 endingValue (Done o) = o .value
 endingValue (Failed f) = 0
 
--- what C sees of it: the number in bits 8 to 15, the value in bits 16 to 31
-abbrev pub endingNumber : Ending → ℕ
-endingNumber e = endingError e * 256 + endingValue e * 65536
+abbrev pub endingExtra : Ending → ℕ
+endingExtra (Done o) = 0
+endingExtra (Failed f) = 0
 
--- the error of a number, and the ending of a number and a value
+-- what C sees of it: the number in bits 8 to 15, the value in bits 16 to 31; the extra number in bits 32 to 47 of an end with 0, and in bits
+-- 48 to 63 of an error
+abbrev pub extraPlace : ℕ → ℕ
+extraPlace n = cond (eqb n 0) 4294967296 281474976710656
+
+abbrev pub wordsNumber : ℕ → ℕ → ℕ → ℕ
+wordsNumber n v x = n * 256 + v * 65536 + x * extraPlace n
+
+abbrev pub endingNumber : Ending → ℕ
+endingNumber e = wordsNumber (endingError e) (endingValue e) (endingExtra e)
+
+-- the error of a number, and the ending of the words
 abbrev pub errorOf : ℕ → Error
 errorOf n =
     cond (eqb n 1) Bus
@@ -91,8 +103,20 @@ errorOf n =
     (cond (eqb n 25) NoSuchDate
     (cond (eqb n 26) WrongDate MapLength))))))))))))))))))))))))
 
-abbrev pub endingOf : ℕ → ℕ → Ending
-endingOf n v = cond (eqb n 0) (returned v) (failed (errorOf n))
+abbrev pub endingOf : ℕ → ℕ → ℕ → Ending
+endingOf n v x = cond (eqb n 0) (returned v) (failed (errorOf n))
+
+-- the ending of what C sees
+abbrev pub endingIn : ℕ → Ending
+endingIn n = endingOf (n / 256 % 256) (n / 65536 % 65536) (n / extraPlace (n / 256 % 256) % 65536)
+
+-- the words of an ending: they come back from it
+unfoldable pub isEnding : ℕ → ℕ → ℕ → Bool
+isEnding n v x = eqb (endingError (endingOf n v x)) n && (eqb (endingValue (endingOf n v x)) v && eqb (endingExtra (endingOf n v x)) x)
+
+-- no word beside the number says what such an end has no use for
+abbrev pub isPlain : ℕ → ℕ → ℕ → Bool
+isPlain n v x = (eqb n 0 || eqb v 0) && eqb x 0
 
 -- an error that can be met once accesses began: 1 to 6
 abbrev pub isMet : Error → Bool

@@ -1,17 +1,17 @@
 -- A machine: its states, what a state needs, and how an answer moves it; what is seen of it.
-use mathlib.Core.Bool.{Bool, true, false, cond}
+use mathlib.Core.Bool.{Bool, true, false}
 use mathlib.Core.List.{List, [], _∷_}
 use mathlib.Core.Option.{none, some}
-use Prim.Native.Nat.{ℕ, _%_}
+use Prim.Native.Nat.{ℕ}
 use lib.ListN.{getD, set}
+use Rattle.registers.specs.Word.{fieldOf}
+use Rattle.registers.specs.Fields.{DATA}
 use Rattle.registers.specs.declared.register.Register.the-variants.{Datar}
 use Rattle.access.specs.declared.need.Need.{Need}
 use Rattle.access.specs.declared.need.Need.the-variants as need
 use Rattle.access.specs.declared.next.Next.{Next}
 use Rattle.access.specs.declared.next.Next.the-variants as next
 use Rattle.access.specs.Program.{read, write, send, clock}
-use Rattle.access.specs.declared.ending.Error.the-variants.{InvalidState}
-use Rattle.access.specs.Endings.{failed}
 use Rattle.access.specs.Record.{Shown, noMore, event, arrival}
 
 pub record Machine : Type 1 where
@@ -35,7 +35,7 @@ kept (need.Read r) a bytes = bytes
 kept (need.Write r v) a bytes = bytes
 kept need.Clock a bytes = bytes
 kept (need.Send p) a bytes = bytes
-kept (need.Keep p) a bytes = set bytes p (a % 256)
+kept (need.Keep p) a bytes = set bytes p (fieldOf DATA a)
 kept need.Drop a bytes = bytes
 kept (need.End e) a bytes = bytes
 
@@ -55,7 +55,7 @@ seenAnswered bytes (need.Read r) a rest = event (read r) (some a) rest
 seenAnswered bytes (need.Write r v) a rest = event (write r v) none rest
 seenAnswered bytes need.Clock a rest = event clock (some a) rest
 seenAnswered bytes (need.Send p) a rest = event (send (getD bytes p 0)) none rest
-seenAnswered bytes (need.Keep p) a rest = event (read Datar) (some a) (arrival p (a % 256) rest)
+seenAnswered bytes (need.Keep p) a rest = event (read Datar) (some a) (arrival p (fieldOf DATA a) rest)
 seenAnswered bytes need.Drop a rest = event (read Datar) (some a) rest
 seenAnswered bytes (need.End e) a rest = noMore (some e)
 
@@ -73,10 +73,3 @@ isEnd (need.Send p) = false
 isEnd (need.Keep p) = false
 isEnd need.Drop = false
 isEnd (need.End e) = true
-
--- a step with an answer: where it leads, what is handed out, what the bytes read become. After the end it is refused with 15
-abbrev pub stepState : (m : Machine) → m .State → ℕ → m .State
-stepState m s a = cond (isEnd (m .need s)) s (m .move s a)
-
-abbrev pub stepNext : (m : Machine) → List ℕ → m .State → ℕ → Next
-stepNext m bytes s a = cond (isEnd (m .need s)) (next.End (failed InvalidState)) (filled bytes (m .need (m .move s a)))

@@ -6,7 +6,7 @@ use lib.Dec.{eqb}
 use Rattle.registers.specs.Numbers.{registerNumber, registerOf}
 use Rattle.access.specs.declared.next.Next.{Next}
 use Rattle.access.specs.declared.next.Next.the-variants.{Read, Write, Clock, End}
-use Rattle.access.specs.Endings.{endingNumber, endingOf}
+use Rattle.access.specs.Endings.{endingNumber, endingIn}
 use Rattle.access.specs.declared.ending.Ending.{Ending}
 use Rattle.access.specs.declared.ending.Ending.the-variants.{Done, Failed}
 
@@ -19,7 +19,7 @@ nextNumber (End e) = endingNumber e
 -- taken apart again, as the C header does
 abbrev pub nextOf : ℕ → Next
 nextOf n =
-    cond (eqb (n % 256) 0) (End (endingOf (n / 256 % 256) (n / 65536 % 65536)))
+    cond (eqb (n % 256) 0) (End (endingIn n))
     (cond (eqb (n % 256) 1) (Read (registerOf (n / 256 % 256)))
     (cond (eqb (n % 256) 2) (Write (registerOf (n / 256 % 256)) (n / 65536 % 65536)) Clock))
 

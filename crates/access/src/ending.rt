@@ -1,9 +1,10 @@
 // How a call ends.
 ghost use mathlib.Core.Path.{_≡_};
+ghost use Prim.Native.Nat.{_/_, _%_};
 ghost use Rattle.access.specs.Numbers.{EndHoldsWords};
-ghost use Rattle.access.specs.Endings.{errorNumber, endingError, endingValue, endingNumber, errorOf, endingOf, failureOf, done, returned, failed, isMet, hasFailed, isDone};
+ghost use Rattle.access.specs.Endings.{errorNumber, endingError, endingValue, endingExtra, extraPlace, wordsNumber, endingNumber, errorOf, endingOf, endingIn, isEnding, isPlain, failureOf, done, returned, failed, hasFailed, isDone};
 
-// The Rust's `Error`, and behind it the refusals that the port adds, 17 to 27 for calls beside the Rust's. (The Rust's
+// The Rust's `Error`, and behind it the refusals that the port adds; 18 to 27 are for calls beside the Rust's. (The Rust's
 // `ZeroLengthTransfer`, 7, is never given.)
 pub enum Error {
     Bus,
@@ -106,12 +107,37 @@ pub fn ending_value(ending: Ending) -> u16
     }
 }
 
-// An ending as C sees it: its number in bits 8 to 15, what is returned in bits 16 to 31.
+// What else there is to know: nothing yet.
+pub fn ending_extra(ending: Ending) -> u16
+    ensures { λ r. ⌜ r ≡ endingExtra ending ⌝ }
+{
+    match ending {
+        Ending::Done(_) => 0,
+        Ending::Failed(_) => 0,
+    }
+}
+
+// The words of an ending as C sees them: its number in bits 8 to 15, what is returned in bits 16 to 31; the extra number in bits 32 to
+// 47 of an end with 0, and in bits 48 to 63 of an error.
+pub fn words_number(error: u8, value: u16, extra: u16) -> u64
+    ensures { λ r. ⌜ r ≡ wordsNumber error value extra ⌝ }
+{
+    if error == 0 {
+        return value as u64 * 65536 + extra as u64 * 4294967296;
+    }
+    error as u64 * 256 + value as u64 * 65536 + extra as u64 * 281474976710656
+}
+
+// An ending as C sees it.
 pub fn ending_number(ending: Ending) -> u64
     ensures { λ r. ⌜ r ≡ endingNumber ending ⌝ }
     ensures { λ _. ⌜ EndHoldsWords ending ⌝ }
 {
-    ending_error(ending) as u64 * 256 + ending_value(ending) as u64 * 65536
+    words_number(
+        ending_error(ending),
+        ending_value(ending),
+        ending_extra(ending),
+    )
 }
 
 // The error of a number.
@@ -148,15 +174,62 @@ fn error_of(number: u8) -> Error
     }
 }
 
-// The ending of a number and a value.
-pub fn ending_of(error: u8, value: u16) -> Ending
-    ensures { λ r. ⌜ r ≡ endingOf error value ⌝ }
+// The ending of the words.
+fn ending_of(error: u8, value: u16, extra: u16) -> Ending
+    ensures { λ r. ⌜ r ≡ endingOf error value extra ⌝ }
 {
     if error == 0 {
         returned(value)
     } else {
         failed(error_of(error))
     }
+}
+
+fn extra_in(number: u64, error: u8) -> u16
+    ensures { λ r. ⌜ r ≡ number / extraPlace error % 65536 ⌝ }
+{
+    if error == 0 {
+        return (number / 4294967296 % 65536) as u16;
+    }
+    (number / 281474976710656 % 65536) as u16
+}
+
+// The ending of what C sees.
+pub fn ending_in(number: u64) -> Ending
+    ensures { λ r. ⌜ r ≡ endingIn number ⌝ }
+{
+    let error = (number / 256 % 256) as u8;
+    let value = (number / 65536 % 65536) as u16;
+    let extra = extra_in(number, error);
+    ending_of(error, value, extra)
+}
+
+// No word beside the number says what such an end has no use for: a call that fails returns nothing.
+pub fn is_plain(error: u8, value: u16, extra: u16) -> bool
+    ensures { λ r. ⌜ r ≡ isPlain error value extra ⌝ }
+{
+    ((error == 0) | (value == 0)) & (extra == 0)
+}
+
+// Whether these are the words of an ending. No error is number 7.
+pub fn is_ending(error: u8, value: u16, extra: u16) -> bool
+    ensures { λ r. ⌜ r ≡ isEnding error value extra ⌝ }
+{
+    ((error != 7) & (error < 28)) & is_plain(error, value, extra)
+}
+
+// Whether these are the words of an end that is not known yet: done, with nothing to return.
+pub fn is_done(error: u8, value: u16, extra: u16) -> bool
+    ensures { λ r. ⌜ r ≡ isDone (endingOf error value extra) ⌝ }
+{
+    (error == 0) & (value == 0)
+}
+
+// Whether these are the words of an error that was met once accesses began: 1 to 6.
+pub fn has_failed(error: u8, value: u16, extra: u16) -> bool
+    ensures { λ r. ⌜ r ≡ hasFailed (endingOf error value extra) ⌝ }
+{
+    (0 < error) & (error <= 6)
 }
 
 pub fn failure_of(error: Error) -> Failure
@@ -183,33 +256,4 @@ pub fn failed(error: Error) -> Ending
     ensures { λ r. ⌜ r ≡ failed error ⌝ }
 {
     Ending::Failed(failure_of(error))
-}
-
-// Whether an error can be met once accesses began: 1 to 6.
-pub fn is_met(error: Error) -> bool
-    ensures { λ r. ⌜ r ≡ isMet error ⌝ }
-{
-    error_number(error) <= 6
-}
-
-pub fn has_failed(ending: Ending) -> bool
-    ensures { λ r. ⌜ r ≡ hasFailed ending ⌝ }
-{
-    match ending {
-        Ending::Done(_) => false,
-        Ending::Failed(failure) => {
-            let error = failure.error;
-            is_met(error)
-        }
-    }
-}
-
-// Done, with nothing to return.
-pub fn is_done(ending: Ending) -> bool
-    ensures { λ r. ⌜ r ≡ isDone ending ⌝ }
-{
-    match ending {
-        Ending::Done(outcome) => outcome.value == 0,
-        Ending::Failed(_) => false,
-    }
 }

@@ -1,3 +1,3 @@
-pub mod MetLaws
+pub mod EndLaws
 pub mod KeptLaws
 pub mod NeedLaws

@@ -9,8 +9,8 @@ use Rattle.registers.specs.Numbers.{registerNumber}
 use Rattle.registers.proofs.NumberLaws.{register-back, register-below}
 use Rattle.access.specs.declared.need.Need.{Need}
 use Rattle.access.specs.declared.need.Need.the-variants.{Read, Write, Clock, Send, Keep, Drop, End}
-use Rattle.access.specs.Endings.{endingError, endingValue, endingOf}
-use Rattle.access.proofs.NumberLaws.{kind-of, code-of, value-of, error-below, value-below, ending-back}
+use Rattle.access.proofs.EndingLaws.{end-kind, number-in}
+use Rattle.access.proofs.NumberLaws.{kind-of, code-of, value-of}
 use Rattle.asked.specs.Asked.{needNumber, needOf, NeedHoldsWords, Asks}
 
 place-kind : (k p : ℕ) → k < 256 → (k + p * 65536) % 256 ≡ k
@@ -36,11 +36,6 @@ read-back Star2 = refl
 read-back Ckcfgr = refl
 read-back Rtr = refl
 
-end-number : (n v : ℕ) → n < 256 → v < 65536 → needOf (n * 256 + v * 65536) ≡ End (endingOf n v)
-end-number n v h l =
-    let e : n * 256 + v * 65536 ≡ 0 + n * 256 + v * 65536 = omega arith in
-    ap needOf e ∙ rw (kind-of 0 n v (omega arith), code-of 0 n v (omega arith) h, value-of 0 n v (omega arith) h l)
-
 need-back : (x : Need) → NeedHoldsWords x → needOf (needNumber x) ≡ x
 need-back (Read r) h = read-back r
 need-back (Write r v) h = write-back r v h
@@ -48,7 +43,7 @@ need-back Clock h = refl
 need-back (Send p) h = rw (place-kind 4 p (omega arith), place-of 4 p (omega arith) h)
 need-back (Keep p) h = rw (place-kind 5 p (omega arith), place-of 5 p (omega arith) h)
 need-back Drop h = refl
-need-back (End e) h = end-number (endingError e) (endingValue e) (error-below e) (value-below e h) ∙ ap End (ending-back e)
+need-back (End e) h = rw (end-kind e h) (ap End (number-in e h))
 
 pub asks-told : (n : ℕ) (x : Need) → Asks n x → needOf n ≡ x
 asks-told n x a = ap needOf (a .number) ∙ need-back x (a .words)

@@ -6,7 +6,7 @@ use Prim.Native.Nat.{ℕ, _+_, _*_, _/_, _%_, _<_}
 use Rattle.registers.specs.Numbers.{registerNumber, registerOf}
 use Rattle.access.specs.declared.need.Need.{Need}
 use Rattle.access.specs.declared.need.Need.the-variants.{Read, Write, Clock, Send, Keep, Drop, End}
-use Rattle.access.specs.Endings.{endingNumber, endingOf}
+use Rattle.access.specs.Endings.{endingNumber, endingIn}
 use Rattle.access.specs.Numbers.{EndHoldsWords}
 
 abbrev pub needNumber : Need → ℕ
@@ -21,7 +21,7 @@ needNumber (End e) = endingNumber e
 -- taken apart again
 abbrev pub needOf : ℕ → Need
 needOf n =
-    cond (eqb (n % 256) 0) (End (endingOf (n / 256 % 256) (n / 65536 % 65536)))
+    cond (eqb (n % 256) 0) (End (endingIn n))
     (cond (eqb (n % 256) 1) (Read (registerOf (n / 256 % 256)))
     (cond (eqb (n % 256) 2) (Write (registerOf (n / 256 % 256)) (n / 65536 % 65536))
     (cond (eqb (n % 256) 3) Clock

@@ -1,15 +1,20 @@
 // What is asked for next, by number: C's number (docs/USING.md), but for a byte to send or to keep, which is asked for by its place.
 // `need_of` takes the number apart again.
 ghost use mathlib.Core.Path.{_≡_};
-ghost use mathlib.Core.Bool.{true};
 ghost use Rattle.access.specs.declared.ending.Error.the-variants.{InvalidState};
 ghost use Rattle.access.specs.declared.need.Need.the-variants as need;
 ghost use Rattle.access.specs.declared.ending.Ending.{Ending};
-ghost use Rattle.access.specs.Endings.{done, returned, failed, hasFailed, endingError};
+ghost use lib.ListN.{length};
+ghost use Rattle.access.specs.Endings.{done, failed};
+ghost use Rattle.block.specs.Bytes32.{blockSize};
+ghost use Rattle.images.specs.EndImage.{KeepsEnd};
 ghost use Rattle.asked.specs.Asked.{Asks, needOf};
+use access::Ending;
 use access::Error;
 use access::Need;
 use access::ending;
+use block::at;
+use block::bytes32;
 use registers::Register;
 use registers::register;
 
@@ -79,25 +84,30 @@ pub fn done() -> u64
     0
 }
 
-// The call is done, and returns a value.
-pub fn returned(value: u16) -> u64
-    ensures { λ r. ⌜ Asks r (need.End (returned value)) ⌝ }
+// The call ends like this.
+pub fn end(ending: Ending) -> u64
+    ensures { λ r. ⌜ Asks r (need.End ending) ⌝ }
 {
-    value as u64 * 65536
+    ending::ending_number(ending)
 }
 
-// The call has met the error of this number.
-pub fn failed(error: u8) -> u64
-    ensures { λ r. ⌜ ((e : Ending) → hasFailed e ≡ true → error ≡ endingError e → Asks r (need.End e)) ⌝ }
+// The call ends with the end that its block keeps.
+pub fn ended(block: &[u8]) -> u64
+    requires { ⌜ length (now block) ≡ blockSize ⌝ }
+    ensures { λ r. ⌜ ((e : Ending) → KeepsEnd (now (block .entry)) e → Asks r (need.End e)) ⌝ }
 {
-    error as u64 * 256
+    ending::words_number(
+        block[at::ERROR],
+        bytes32::word_at(block, at::VALUE),
+        bytes32::word_at(block, at::EXTRA),
+    )
 }
 
 // The call is refused with this error.
 pub fn refusal(error: Error) -> u64
     ensures { λ r. ⌜ Asks r (need.End (failed error)) ⌝ }
 {
-    ending::error_number(error) as u64 * 256
+    end(ending::failed(error))
 }
 
 // A refused step: nothing is written, and the number is 15's.
@@ -115,7 +125,7 @@ pub fn need_of(asked: u64) -> Need
     let value = (asked / 65536 % 65536) as u16;
     let place = (asked / 65536 % 4294967296) as u32;
     match asked % 256 {
-        0 => Need::End(ending::ending_of(code, value)),
+        0 => Need::End(ending::ending_in(asked)),
         1 => Need::Read(register::of_number(code)),
         2 => Need::Write(register::of_number(code), value),
         3 => Need::Clock,

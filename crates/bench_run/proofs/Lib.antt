@@ -1,2 +1,11 @@
 pub mod PlayLaws
 pub mod PrintedLaws
+pub mod Counts
+pub mod LaidLaws
+pub mod Follows
+pub mod Played
+pub mod Writes
+pub mod Arrived
+pub mod SaidForm
+pub mod PrintsLayer1
+pub mod PrintedExample

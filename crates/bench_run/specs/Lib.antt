@@ -1,2 +1,5 @@
 pub mod Play
 pub mod Printed
+pub mod Laid
+pub mod Layer1
+pub mod Claims

@@ -57,6 +57,6 @@ playFrom (suc turns) list written answers h used arrived =
     (accessText (h .next) (getD answers used 0)
     ++ playFrom turns list written answers (transactionStep (h .block) list written (h .read) (getD answers used 0)) (used + asked (h .next)) (arrived + arriving (h .next))))
 
--- more accesses than a call makes on 4,096 answers
+-- more accesses than a call makes on 4,096 answers (`few`, `used` and `given` of Claims.antt)
 abbrev pub mostTurns : ℕ
 mostTurns = 16384

@@ -14,7 +14,7 @@ fn next_of(number: u64) -> Next
     let code = (number / 256 % 256) as u8;
     let value = (number / 65536 % 65536) as u16;
     match number % 256 {
-        0 => Next::End(ending::ending_of(code, value)),
+        0 => Next::End(ending::ending_in(number)),
         1 => Next::Read(register::of_number(code)),
         2 => Next::Write(register::of_number(code), value),
         _ => Next::Clock,

@@ -22,10 +22,10 @@ abbrev widths : List ℕ
 widths = 1 ∷ 1 ∷ 1 ∷ 1 ∷ 1 ∷ 1 ∷ 1 ∷ 1 ∷ 2 ∷ 2 ∷ 2 ∷ 2 ∷ 2 ∷ 2 ∷ 2 ∷ 2 ∷ 4 ∷ 1 ∷ 1 ∷ 2 ∷ []
 
 abbrev numbersOf : Fields → List ℕ
-numbersOf f = f .entry ∷ f .chip ∷ f .option ∷ f .stage ∷ f .what ∷ f .phase ∷ f .marks ∷ f .error ∷ f .address ∷ f .run ∷ f .left ∷ f .place ∷ f .word ∷ f .divider ∷ f .rise ∷ f .value ∷ f .count ∷ f .second ∷ f .mhz ∷ f .unused ∷ []
+numbersOf f = f .entry ∷ f .chip ∷ f .option ∷ f .stage ∷ f .what ∷ f .phase ∷ f .marks ∷ f .error ∷ f .address ∷ f .run ∷ f .left ∷ f .place ∷ f .word ∷ f .divider ∷ f .rise ∷ f .value ∷ f .count ∷ f .second ∷ f .mhz ∷ f .extra ∷ []
 
 abbrev fieldsFrom : List ℕ → Fields
-fieldsFrom ns = record { entry = getD ns 0 0; chip = getD ns 1 0; option = getD ns 2 0; stage = getD ns 3 0; what = getD ns 4 0; phase = getD ns 5 0; marks = getD ns 6 0; error = getD ns 7 0; address = getD ns 8 0; run = getD ns 9 0; left = getD ns 10 0; place = getD ns 11 0; word = getD ns 12 0; divider = getD ns 13 0; rise = getD ns 14 0; value = getD ns 15 0; count = getD ns 16 0; second = getD ns 17 0; mhz = getD ns 18 0; unused = getD ns 19 0 }
+fieldsFrom ns = record { entry = getD ns 0 0; chip = getD ns 1 0; option = getD ns 2 0; stage = getD ns 3 0; what = getD ns 4 0; phase = getD ns 5 0; marks = getD ns 6 0; error = getD ns 7 0; address = getD ns 8 0; run = getD ns 9 0; left = getD ns 10 0; place = getD ns 11 0; word = getD ns 12 0; divider = getD ns 13 0; rise = getD ns 14 0; value = getD ns 15 0; count = getD ns 16 0; second = getD ns 17 0; mhz = getD ns 18 0; extra = getD ns 19 0 }
 
 wide : Wide widths
 wide = (omega arith, (omega arith, (omega arith, (omega arith, (omega arith, (omega arith, (omega arith, (omega arith, (omega arith, (omega arith, (omega arith, (omega arith, (omega arith, (omega arith, (omega arith, (omega arith, (omega arith, (omega arith, (omega arith, (omega arith, tt))))))))))))))))))))
@@ -78,12 +78,12 @@ over i b h k =
     rw (take-length, drop-of-length-le b m, append-nil)
 
 -- what a block says, its longer numbers read one by one
-pub said : (b : List ℕ) (w0 w1 w2 w3 w4 w5 w6 w7 w8 w9 : ℕ) → w0 ≡ wordAt b 8 → w1 ≡ wordAt b 10 → w2 ≡ wordAt b 12 → w3 ≡ wordAt b 14 → w4 ≡ wordAt b 16 → w5 ≡ wordAt b 18 → w6 ≡ wordAt b 20 → w7 ≡ wordAt b 22 → w8 ≡ longAt b 24 → w9 ≡ wordAt b 30 → record { entry = getD b 0 0; chip = getD b 1 0; option = getD b 2 0; stage = getD b 3 0; what = getD b 4 0; phase = getD b 5 0; marks = getD b 6 0; error = getD b 7 0; address = w0; run = w1; left = w2; place = w3; word = w4; divider = w5; rise = w6; value = w7; count = w8; second = getD b 28 0; mhz = getD b 29 0; unused = w9 } ≡ fieldsOf b
+pub said : (b : List ℕ) (w0 w1 w2 w3 w4 w5 w6 w7 w8 w9 : ℕ) → w0 ≡ wordAt b 8 → w1 ≡ wordAt b 10 → w2 ≡ wordAt b 12 → w3 ≡ wordAt b 14 → w4 ≡ wordAt b 16 → w5 ≡ wordAt b 18 → w6 ≡ wordAt b 20 → w7 ≡ wordAt b 22 → w8 ≡ longAt b 24 → w9 ≡ wordAt b 30 → record { entry = getD b 0 0; chip = getD b 1 0; option = getD b 2 0; stage = getD b 3 0; what = getD b 4 0; phase = getD b 5 0; marks = getD b 6 0; error = getD b 7 0; address = w0; run = w1; left = w2; place = w3; word = w4; divider = w5; rise = w6; value = w7; count = w8; second = getD b 28 0; mhz = getD b 29 0; extra = w9 } ≡ fieldsOf b
 unfolding fieldsOf
 said b w0 w1 w2 w3 w4 w5 w6 w7 w8 w9 e0 e1 e2 e3 e4 e5 e6 e7 e8 e9 = rw (e0, e1, e2, e3, e4, e5, e6, e7, e8, e9)
 
 -- the bytes that say it, with the highest byte of each number found by itself
-pub spelled : (f : Fields) (h0 h1 h2 h3 h4 h5 h6 h7 h8 h9 : ℕ) → h0 ≡ f .address / 256 → h1 ≡ f .run / 256 → h2 ≡ f .left / 256 → h3 ≡ f .place / 256 → h4 ≡ f .word / 256 → h5 ≡ f .divider / 256 → h6 ≡ f .rise / 256 → h7 ≡ f .value / 256 → h8 ≡ f .count / 65536 / 256 → h9 ≡ f .unused / 256 → f .entry ∷ f .chip ∷ f .option ∷ f .stage ∷ f .what ∷ f .phase ∷ f .marks ∷ f .error ∷ f .address % 256 ∷ h0 ∷ f .run % 256 ∷ h1 ∷ f .left % 256 ∷ h2 ∷ f .place % 256 ∷ h3 ∷ f .word % 256 ∷ h4 ∷ f .divider % 256 ∷ h5 ∷ f .rise % 256 ∷ h6 ∷ f .value % 256 ∷ h7 ∷ f .count % 65536 % 256 ∷ f .count % 65536 / 256 ∷ f .count / 65536 % 256 ∷ h8 ∷ f .second ∷ f .mhz ∷ f .unused % 256 ∷ h9 ∷ [] ≡ bytesOf f
+pub spelled : (f : Fields) (h0 h1 h2 h3 h4 h5 h6 h7 h8 h9 : ℕ) → h0 ≡ f .address / 256 → h1 ≡ f .run / 256 → h2 ≡ f .left / 256 → h3 ≡ f .place / 256 → h4 ≡ f .word / 256 → h5 ≡ f .divider / 256 → h6 ≡ f .rise / 256 → h7 ≡ f .value / 256 → h8 ≡ f .count / 65536 / 256 → h9 ≡ f .extra / 256 → f .entry ∷ f .chip ∷ f .option ∷ f .stage ∷ f .what ∷ f .phase ∷ f .marks ∷ f .error ∷ f .address % 256 ∷ h0 ∷ f .run % 256 ∷ h1 ∷ f .left % 256 ∷ h2 ∷ f .place % 256 ∷ h3 ∷ f .word % 256 ∷ h4 ∷ f .divider % 256 ∷ h5 ∷ f .rise % 256 ∷ h6 ∷ f .value % 256 ∷ h7 ∷ f .count % 65536 % 256 ∷ f .count % 65536 / 256 ∷ f .count / 65536 % 256 ∷ h8 ∷ f .second ∷ f .mhz ∷ f .extra % 256 ∷ h9 ∷ [] ≡ bytesOf f
 unfolding bytesOf
 spelled f h0 h1 h2 h3 h4 h5 h6 h7 h8 h9 e0 e1 e2 e3 e4 e5 e6 e7 e8 e9 = rw (e0, e1, e2, e3, e4, e5, e6, e7, e8, e9)
 
@@ -118,9 +118,11 @@ same-said f g e0 =
     let p-what : f .what ≡ g .what = eqb-true (f .what) (g .what) (q11 .0) in
     let p-phase : f .phase ≡ g .phase = eqb-true (f .phase) (g .phase) (q11 .1) in
     let r2 = both (sameEnding f g) (sameRun f g && (sameWords f g && (sameRest f g && (sameExtras f g)))) (r1 .1) in
-    let q20 = both (eqb (f .error) (g .error)) (eqb (f .value) (g .value)) (r2 .0) in
+    let q20 = both (eqb (f .error) (g .error)) (eqb (f .value) (g .value) && (eqb (f .extra) (g .extra))) (r2 .0) in
     let p-error : f .error ≡ g .error = eqb-true (f .error) (g .error) (q20 .0) in
-    let p-value : f .value ≡ g .value = eqb-true (f .value) (g .value) (q20 .1) in
+    let q21 = both (eqb (f .value) (g .value)) (eqb (f .extra) (g .extra)) (q20 .1) in
+    let p-value : f .value ≡ g .value = eqb-true (f .value) (g .value) (q21 .0) in
+    let p-extra : f .extra ≡ g .extra = eqb-true (f .extra) (g .extra) (q21 .1) in
     let r3 = both (sameRun f g) (sameWords f g && (sameRest f g && (sameExtras f g))) (r2 .1) in
     let q30 = both (eqb (f .run) (g .run)) (eqb (f .left) (g .left) && (eqb (f .place) (g .place))) (r3 .0) in
     let p-run : f .run ≡ g .run = eqb-true (f .run) (g .run) (q30 .0) in
@@ -139,10 +141,8 @@ same-said f g e0 =
     let q51 = both (eqb (f .address) (g .address)) (eqb (f .count) (g .count)) (q50 .1) in
     let p-address : f .address ≡ g .address = eqb-true (f .address) (g .address) (q51 .0) in
     let p-count : f .count ≡ g .count = eqb-true (f .count) (g .count) (q51 .1) in
-    let q60 = both (eqb (f .second) (g .second)) (eqb (f .mhz) (g .mhz) && (eqb (f .unused) (g .unused))) (r5 .1) in
+    let q60 = both (eqb (f .second) (g .second)) (eqb (f .mhz) (g .mhz)) (r5 .1) in
     let p-second : f .second ≡ g .second = eqb-true (f .second) (g .second) (q60 .0) in
-    let q61 = both (eqb (f .mhz) (g .mhz)) (eqb (f .unused) (g .unused)) (q60 .1) in
-    let p-mhz : f .mhz ≡ g .mhz = eqb-true (f .mhz) (g .mhz) (q61 .0) in
-    let p-unused : f .unused ≡ g .unused = eqb-true (f .unused) (g .unused) (q61 .1) in
-    let t : _≡_ {A = Fields} (record { entry = f .entry; chip = f .chip; option = f .option; stage = f .stage; what = f .what; phase = f .phase; marks = f .marks; error = f .error; address = f .address; run = f .run; left = f .left; place = f .place; word = f .word; divider = f .divider; rise = f .rise; value = f .value; count = f .count; second = f .second; mhz = f .mhz; unused = f .unused }) (record { entry = g .entry; chip = g .chip; option = g .option; stage = g .stage; what = g .what; phase = g .phase; marks = g .marks; error = g .error; address = g .address; run = g .run; left = g .left; place = g .place; word = g .word; divider = g .divider; rise = g .rise; value = g .value; count = g .count; second = g .second; mhz = g .mhz; unused = g .unused }) = cc in
+    let p-mhz : f .mhz ≡ g .mhz = eqb-true (f .mhz) (g .mhz) (q60 .1) in
+    let t : _≡_ {A = Fields} (record { entry = f .entry; chip = f .chip; option = f .option; stage = f .stage; what = f .what; phase = f .phase; marks = f .marks; error = f .error; address = f .address; run = f .run; left = f .left; place = f .place; word = f .word; divider = f .divider; rise = f .rise; value = f .value; count = f .count; second = f .second; mhz = f .mhz; extra = f .extra }) (record { entry = g .entry; chip = g .chip; option = g .option; stage = g .stage; what = g .what; phase = g .phase; marks = g .marks; error = g .error; address = g .address; run = g .run; left = g .left; place = g .place; word = g .word; divider = g .divider; rise = g .rise; value = g .value; count = g .count; second = g .second; mhz = g .mhz; extra = g .extra }) = cc in
     t

@@ -1,7 +1,7 @@
 -- The 32 bytes of a block, numbers low byte first.
 use Prim.Native.Nat.{ℕ, _+_, _*_, _%_, _/_, _<_}
 use mathlib.Core.List.{List, [], _∷_}
-use lib.ListN.{getD}
+use lib.ListN.{getD, set}
 use Rattle.block.specs.declared.fields.Fields.{Fields}
 
 -- the length of a block, in every call
@@ -10,6 +10,9 @@ blockSize = 32
 
 abbrev pub wordAt : List ℕ → ℕ → ℕ
 wordAt b at = getD b at 0 + getD b (at + 1) 0 * 256
+
+abbrev pub withWord : List ℕ → ℕ → ℕ → List ℕ
+withWord b at w = set (set b at (w % 256)) (at + 1) (w / 256)
 
 abbrev pub longAt : List ℕ → ℕ → ℕ
 longAt b at = wordAt b at + wordAt b (at + 2) * 65536
@@ -37,7 +40,7 @@ fieldsOf b =
       count = longAt b 24;
       second = getD b 28 0;
       mhz = getD b 29 0;
-      unused = wordAt b 30;
+      extra = wordAt b 30;
     }
 
 -- the bytes that say it; the highest byte of a number is all that is above the others
@@ -62,7 +65,7 @@ bytesOf f =
     ∷ f .count % 65536 % 256 ∷ f .count % 65536 / 256 ∷ f .count / 65536 % 256 ∷ f .count / 65536 / 256
     ∷ f .second
     ∷ f .mhz
-    ∷ f .unused % 256 ∷ f .unused / 256 ∷ []
+    ∷ f .extra % 256 ∷ f .extra / 256 ∷ []
 
 -- a list of bytes, as lent from C
 abbrev pub Bytes : List ℕ → Type 0

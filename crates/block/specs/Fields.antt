@@ -11,7 +11,7 @@ module _ (a b : Fields) where
   sameStage = eqb (a .stage) (b .stage) && (eqb (a .what) (b .what) && (eqb (a .phase) (b .phase)))
 
   abbrev pub sameEnding : Bool
-  sameEnding = eqb (a .error) (b .error) && (eqb (a .value) (b .value))
+  sameEnding = eqb (a .error) (b .error) && (eqb (a .value) (b .value) && (eqb (a .extra) (b .extra)))
 
   abbrev pub sameRun : Bool
   sameRun = eqb (a .run) (b .run) && (eqb (a .left) (b .left) && (eqb (a .place) (b .place)))
@@ -23,7 +23,7 @@ module _ (a b : Fields) where
   sameRest = eqb (a .marks) (b .marks) && (eqb (a .address) (b .address) && (eqb (a .count) (b .count)))
 
   abbrev pub sameExtras : Bool
-  sameExtras = eqb (a .second) (b .second) && (eqb (a .mhz) (b .mhz) && (eqb (a .unused) (b .unused)))
+  sameExtras = eqb (a .second) (b .second) && (eqb (a .mhz) (b .mhz))
 
   unfoldable pub sameFields : Bool
   sameFields = sameCall && (sameStage && (sameEnding && (sameRun && (sameWords && (sameRest && (sameExtras))))))

@@ -2,7 +2,8 @@
 ghost use mathlib.Core.Path.{_≡_};
 ghost use Prim.Native.Nat.{_+_, _*_, _%_, _/_, _≤_};
 ghost use lib.ListN.{length};
-ghost use Rattle.block.specs.Bytes32.{wordAt, longAt, fieldsOf, bytesOf, blockSize};
+ghost use Rattle.block.specs.Bytes32.{wordAt, withWord, longAt, fieldsOf, bytesOf, blockSize};
+use crate::at;
 use crate::fields::Fields;
 
 // The length of a block, in every call.
@@ -14,18 +15,29 @@ fn word(low: u8, high: u8) -> u16
     low as u16 + high as u16 * 256
 }
 
-fn word_at(block: &[u8], at: usize) -> u16
+pub fn word_at(block: &[u8], at: usize) -> u16
     requires { ⌜ at + 2 ≤ length (now block) ⌝ }
     ensures { λ r. ⌜ r ≡ wordAt (now (block .entry)) at ⌝ }
 {
     word(block[at], block[at + 1])
 }
 
-fn long_at(block: &[u8], at: usize) -> u32
+pub fn long_at(block: &[u8], at: usize) -> u32
     requires { ⌜ at + 4 ≤ length (now block) ⌝ }
     ensures { λ r. ⌜ r ≡ longAt (now (block .entry)) at ⌝ }
 {
     word_at(block, at) as u32 + word_at(block, at + 2) as u32 * 65536
+}
+
+// A word, low byte first, in two bytes from a place on.
+pub fn put_word(block: &mut [u8], at: usize, word: u16)
+    requires { ⌜ length (now block) ≡ blockSize ⌝ }
+    requires { ⌜ at + 2 ≤ blockSize ⌝ }
+    ensures { λ _. ⌜ length (now (block .exit)) ≡ blockSize ⌝ }
+    ensures { λ _. ⌜ now (block .exit) ≡ withWord (now (block .entry)) at word ⌝ }
+{
+    block[at] = (word % 256) as u8;
+    block[at + 1] = (word / 256) as u8;
 }
 
 // What a block says.
@@ -34,26 +46,26 @@ pub fn fields(block: &[u8]) -> Fields
     ensures { λ r. ⌜ r ≡ fieldsOf (now (block .entry)) ⌝ }
 {
     Fields {
-        entry: block[0],
-        chip: block[1],
-        option: block[2],
-        stage: block[3],
-        what: block[4],
-        phase: block[5],
-        marks: block[6],
-        error: block[7],
-        address: word_at(block, 8),
-        run: word_at(block, 10),
-        left: word_at(block, 12),
-        place: word_at(block, 14),
-        word: word_at(block, 16),
-        divider: word_at(block, 18),
-        rise: word_at(block, 20),
-        value: word_at(block, 22),
-        count: long_at(block, 24),
-        second: block[28],
-        mhz: block[29],
-        unused: word_at(block, 30),
+        entry: block[at::ENTRY],
+        chip: block[at::CHIP],
+        option: block[at::OPTION],
+        stage: block[at::GROUP],
+        what: block[at::WHAT],
+        phase: block[at::PHASE],
+        marks: block[at::MARKS],
+        error: block[at::ERROR],
+        address: word_at(block, at::ADDRESS),
+        run: word_at(block, at::RUN),
+        left: word_at(block, at::LEFT),
+        place: word_at(block, at::PLACE),
+        word: word_at(block, at::WORD),
+        divider: word_at(block, at::DIVIDER),
+        rise: word_at(block, at::RISE),
+        value: word_at(block, at::VALUE),
+        count: long_at(block, at::COUNT),
+        second: block[at::SECOND],
+        mhz: block[at::MHZ],
+        extra: word_at(block, at::EXTRA),
     }
 }
 
@@ -104,8 +116,8 @@ fn image(f: Fields) -> [u8; 32]
         top(f.count),
         f.second,
         f.mhz,
-        (f.unused % 256) as u8,
-        high(f.unused),
+        (f.extra % 256) as u8,
+        high(f.extra),
     ]
 }
 

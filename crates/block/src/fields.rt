@@ -14,7 +14,7 @@ pub struct Fields {
     pub phase: u8,
     // A direction, or settings that are true or false.
     pub marks: u8,
-    // How the call is to end: the error's number and the value returned, here and in `value`.
+    // How the call is to end, in words: the error's number, here; the value returned, in `value`; and what else there is to know, in `extra`.
     pub error: u8,
     pub address: u16,
     // A run's number, its bytes left, and the place of the next of them.
@@ -31,8 +31,8 @@ pub struct Fields {
     // A second address, and the input clock.
     pub second: u8,
     pub mhz: u8,
-    // Bytes 30 and 31, which are 0.
-    pub unused: u16,
+    // The end's third word.
+    pub extra: u16,
 }
 
 fn same_call(a: Fields, b: Fields) -> bool
@@ -50,7 +50,7 @@ fn same_stage(a: Fields, b: Fields) -> bool
 fn same_ending(a: Fields, b: Fields) -> bool
     ensures { λ r. ⌜ r ≡ sameEnding a b ⌝ }
 {
-    (a.error == b.error) & (a.value == b.value)
+    (a.error == b.error) & ((a.value == b.value) & (a.extra == b.extra))
 }
 
 fn same_run(a: Fields, b: Fields) -> bool
@@ -74,7 +74,7 @@ fn same_rest(a: Fields, b: Fields) -> bool
 fn same_extras(a: Fields, b: Fields) -> bool
     ensures { λ r. ⌜ r ≡ sameExtras a b ⌝ }
 {
-    (a.second == b.second) & ((a.mhz == b.mhz) & (a.unused == b.unused))
+    (a.second == b.second) & (a.mhz == b.mhz)
 }
 
 // Whether two blocks say the same.

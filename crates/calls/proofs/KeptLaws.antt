@@ -3,10 +3,12 @@
 use mathlib.Core.Path.{_≡_, refl, ap, sym, _∙_}
 use mathlib.Core.Bool.{Bool, true, false, cond, not, _&&_, true≢false}
 use mathlib.Core.List.{List}
-use Prim.Native.Nat.{ℕ, _%_}
+use Prim.Native.Nat.{ℕ}
 use lib.Dec.{eqb}
 use lib.ListN.{set}
 use borrow.Author.Tests.{eq-eqb}
+use Rattle.registers.specs.Word.{fieldOf}
+use Rattle.registers.specs.Fields.{DATA}
 use Rattle.access.specs.declared.ending.Error.the-variants.{InvalidState}
 use Rattle.access.specs.declared.need.Need.{Need}
 use Rattle.access.specs.declared.need.Need.the-variants as need
@@ -36,7 +38,7 @@ unkept false x y = refl
 -- a refused step keeps nothing
 pub refused-keeps : (a n : ℕ) (k : Bool) (place : ℕ) → Asks n (need.End (failed InvalidState)) → Keeps (need.End (failed InvalidState)) a (keepingBy n k place)
 refused-keeps a n k place r bytes =
-    unkept k (set bytes place (a % 256)) bytes ∙ ap (λ (x : Bool). cond (k && not x) (set bytes place (a % 256)) bytes) (sym (eq-eqb n 3840 (r .number)))
+    unkept k (set bytes place (fieldOf DATA a)) bytes ∙ ap (λ (x : Bool). cond (k && not x) (set bytes place (fieldOf DATA a)) bytes) (sym (eq-eqb n 3840 (r .number)))
 
 -- what is kept in a call that takes its steps while it fits and has not ended
 pub open-keeps : (fits : Bool) (n : Need) (a : ℕ) (bytes : List ℕ) → kept (cond fits n (need.End (failed InvalidState))) a bytes ≡ cond (fits && not (isEnd n)) (kept n a bytes) bytes

@@ -4,10 +4,12 @@ use mathlib.Core.Path.{_≡_, refl, ap, sym, subst, _∙_}
 use mathlib.Core.Bool.{Bool, true, false, cond, not, _&&_}
 use mathlib.Core.List.{List}
 use mathlib.Core.Option.{none, some}
-use Prim.Native.Nat.{ℕ, _%_}
+use Prim.Native.Nat.{ℕ}
 use lib.Dec.{eqb, ltb}
 use lib.ListN.{length, getD, set}
 use borrow.Author.Tests.{eq-eqb, ne-eqb}
+use Rattle.registers.specs.Word.{fieldOf}
+use Rattle.registers.specs.Fields.{DATA}
 use Rattle.registers.specs.declared.chip.Chip.{Chip}
 use Rattle.access.specs.declared.ending.Error.the-variants.{InvalidState, BufferTooLong}
 use Rattle.access.specs.declared.need.Need.{Need}
@@ -97,7 +99,7 @@ module _ (size entry : ℕ) (b : List ℕ) (a : ℕ) (after : List ℕ) (n : ℕ
       found-keeps (At s) e r bytes =
           ap (λ (x : Need). kept x a bytes) (owed-fitting s) ∙ open-keeps (fitsLent s size) (needOf s size) a bytes ∙ sym (go (k && not (eqb n 3840)) refl)
         where
-          go : (t : Bool) → k && not (eqb n 3840) ≡ t → cond t (set bytes count (a % 256)) bytes ≡ cond (fitsLent s size && not (isEnd (needOf s size))) (kept (needOf s size) a bytes) bytes
+          go : (t : Bool) → k && not (eqb n 3840) ≡ t → cond t (set bytes count (fieldOf DATA a)) bytes ≡ cond (fitsLent s size && not (isEnd (needOf s size))) (kept (needOf s size) a bytes) bytes
           go true t = stores entry b after bytes size a n 3840 count k at refusal keeping (At s) e r t
           go false t = leaves entry b after bytes size a n 3840 count k at refusal keeping (At s) e r t
 

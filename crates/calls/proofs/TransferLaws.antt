@@ -4,10 +4,12 @@ use mathlib.Core.Path.{_≡_, refl, ap, sym, subst, _∙_}
 use mathlib.Core.Bool.{Bool, true, false, cond, not, _&&_}
 use mathlib.Core.List.{List}
 use mathlib.Core.Option.{Option, none, some}
-use Prim.Native.Nat.{ℕ, _%_, _<_}
+use Prim.Native.Nat.{ℕ, _<_}
 use lib.Dec.{eqb}
 use lib.ListN.{length, getD, set}
 use borrow.Author.Tests.{eq-eqb, ne-eqb}
+use Rattle.registers.specs.Word.{fieldOf}
+use Rattle.registers.specs.Fields.{DATA}
 use Rattle.access.specs.declared.ending.Error.{Error}
 use Rattle.access.specs.declared.ending.Error.the-variants.{InvalidState}
 use Rattle.access.specs.declared.need.Need.{Need}
@@ -115,8 +117,8 @@ module _ (list : List ℕ) (written room entry : ℕ) (b : List ℕ) (a : ℕ) (
           ap (λ (x : Need). kept x a bytes) (owed-fitting s)
           ∙ open-keeps (fitsLent s list written room) (needOf s) a bytes
           ∙ sym (stored-is s list written room a b after bytes n 3840 r refusal)
-          ∙ ap (λ (p : ℕ). cond (isKeep (needOf s) && not (eqb n 3840)) (set bytes p (a % 256)) bytes) (sym (at ∙ place-told s is))
-          ∙ ap (λ (x : Bool). cond (x && not (eqb n 3840)) (set bytes place (a % 256)) bytes) (sym (keeping (settingOf (s .call)) (getD b 4 0) (s .progress) ∙ ap (λ (st : Stage). isKeep (owedAt (settingOf (s .call)) st (s .progress))) (stage-told s is)))
+          ∙ ap (λ (p : ℕ). cond (isKeep (needOf s) && not (eqb n 3840)) (set bytes p (fieldOf DATA a)) bytes) (sym (at ∙ place-told s is))
+          ∙ ap (λ (x : Bool). cond (x && not (eqb n 3840)) (set bytes place (fieldOf DATA a)) bytes) (sym (keeping (settingOf (s .call)) (getD b 4 0) (s .progress) ∙ ap (λ (st : Stage). isKeep (owedAt (settingOf (s .call)) st (s .progress))) (stage-told s is)))
 
       keeps-on : Keeps (owedIn (transferOn list written room entry) b) a (keepingBy n k place)
       keeps-on = subst (λ (f : MasterFound). Keeps (owedBy (transferOn list written room entry) (fitting list written room f)) a (keepingBy n k place)) (sym (held-whole size)) (found-keeps (heldIn entry b) refl (steps (all-bytes b all)))

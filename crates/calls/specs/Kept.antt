@@ -2,9 +2,11 @@
 use mathlib.Core.Path.{_≡_}
 use mathlib.Core.Bool.{Bool, false, cond, not, _&&_}
 use mathlib.Core.List.{List}
-use Prim.Native.Nat.{ℕ, _%_}
+use Prim.Native.Nat.{ℕ}
 use lib.Dec.{eqb}
 use lib.ListN.{set}
+use Rattle.registers.specs.Word.{fieldOf}
+use Rattle.registers.specs.Fields.{DATA}
 use Rattle.access.specs.declared.ending.Error.the-variants.{InvalidState}
 use Rattle.access.specs.declared.need.Need.{Need}
 use Rattle.access.specs.declared.need.Need.the-variants as need
@@ -24,7 +26,7 @@ keepingBy asked kept place = record { need = needOf asked; keeps = kept && not (
 
 -- what the answer a to the need n stores, by what a step told
 abbrev pub Keeps : Need → ℕ → Stepped → Type 0
-Keeps n a r = (bytes : List ℕ) → kept n a bytes ≡ cond (r .keeps) (set bytes (r .place) (a % 256)) bytes
+Keeps n a r = (bytes : List ℕ) → kept n a bytes ≡ cond (r .keeps) (set bytes (r .place) (fieldOf DATA a)) bytes
 
 pub record DoesKeeping (c : OnBlock) (b : List ℕ) (a : ℕ) (r : Stepped) (after : List ℕ) : Type 0 where
   pub does : Does (stepOn c b a) (r .need) after

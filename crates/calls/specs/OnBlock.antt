@@ -68,7 +68,10 @@ pub record Does (x : After) (n : Need) (b : List ℕ) : Type 0 where
   pub need : n ≡ x .need
   pub block : b ≡ x .block
 
--- it is a machine's run: the states that a call comes to are held by their blocks
-pub record IsRun (c : OnBlock) (Reached : c .machine .State → Type 0) : Type 0 where
-  pub stays : (s : c .machine .State) (a : ℕ) → Reached s → Reached (c .machine .move s a)
-  pub held : (s : c .machine .State) → Reached s → c .held (c .image s) ≡ some s
+-- IT IS THE RUN OF A MACHINE: states of the machine m stand in blocks by `at`, need and move as they do there, and those that a call comes to
+-- are held by their blocks
+pub record IsRun (c : OnBlock) (m : Machine) (at : m .State → c .machine .State) (Reached : m .State → Type 0) : Type 0 where
+  pub needs : (s : m .State) → c .machine .need (at s) ≡ m .need s
+  pub moves : (s : m .State) (a : ℕ) → c .machine .move (at s) a ≡ at (m .move s a)
+  pub stays : (s : m .State) (a : ℕ) → Reached s → Reached (m .move s a)
+  pub held : (s : m .State) → Reached s → c .held (c .image (at s)) ≡ some (at s)

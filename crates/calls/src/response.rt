@@ -6,6 +6,7 @@ use crate::stepped;
 use crate::stepped::Stepped;
 use access::Error;
 use access::Need;
+use block::at;
 use block::bytes32;
 use slave::Kind;
 use slave_step::begin;
@@ -47,7 +48,7 @@ pub fn receive_step(block: &mut [u8], size: usize, answer: u16) -> Stepped
         return stepped::refused_step();
     }
     let count = put::count_at(block);
-    let kept = keep::is_kept(block[put::GROUP], size, count);
+    let kept = keep::is_kept(block[at::GROUP], size, count);
     let asked = step::step(block, images::numbers::RESPOND_TO_WRITE, size, answer);
     stepped::keeping(asked, kept, count)
 }

@@ -7,6 +7,7 @@ use crate::stepped;
 use crate::stepped::Stepped;
 use access::Error;
 use access::Need;
+use block::at;
 use block::bytes32;
 use master::Call;
 use master_call::begin;
@@ -14,7 +15,6 @@ use master_call::frame;
 use master_call::transaction;
 use master_call::write_read;
 use master_step::keep;
-use master_step::put;
 
 // `unknown`: an argument is none that a call has.
 pub fn begin(
@@ -48,8 +48,8 @@ pub fn transaction_step(
     if block.len() != bytes32::BLOCK_SIZE {
         return stepped::refused_step();
     }
-    let kept = keep::is_kept(block[put::GROUP], block[put::PHASE]);
-    let place = put::word_at(block, put::PLACE);
+    let kept = keep::is_kept(block[at::GROUP], block[at::PHASE]);
+    let place = bytes32::word_at(block, at::PLACE);
     let asked = transaction::transaction_step(block, list, written, room, answer);
     stepped::keeping(asked, kept, place as u32)
 }
@@ -60,8 +60,8 @@ pub fn write_read_step(block: &mut [u8], written: usize, room: usize, answer: u1
     if block.len() != bytes32::BLOCK_SIZE {
         return stepped::refused_step();
     }
-    let kept = keep::is_kept(block[put::GROUP], block[put::PHASE]);
-    let place = put::word_at(block, put::PLACE);
+    let kept = keep::is_kept(block[at::GROUP], block[at::PHASE]);
+    let place = bytes32::word_at(block, at::PLACE);
     let asked = write_read::write_read_step(block, written, room, answer);
     stepped::keeping(asked, kept, place as u32)
 }
@@ -81,8 +81,8 @@ pub fn read_step(block: &mut [u8], room: usize, answer: u16) -> Stepped
     if block.len() != bytes32::BLOCK_SIZE {
         return stepped::refused_step();
     }
-    let kept = keep::is_kept(block[put::GROUP], block[put::PHASE]);
-    let place = put::word_at(block, put::PLACE);
+    let kept = keep::is_kept(block[at::GROUP], block[at::PHASE]);
+    let place = bytes32::word_at(block, at::PLACE);
     let asked = frame::read_step(block, room, answer);
     stepped::keeping(asked, kept, place as u32)
 }

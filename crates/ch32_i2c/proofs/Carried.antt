@@ -16,7 +16,7 @@ use Rattle.access.specs.declared.next.Next.the-variants as next
 use Rattle.access.specs.Endings.{failed}
 use Rattle.access.specs.Record.{Shown}
 use Rattle.access.specs.Machine.{Machine, filled, kept, seenOwed, seenAnswered, shownFrom, isEnd}
-use Rattle.calls.specs.OnBlock.{OnBlock, owedBy, movedBy, refused, stepOn}
+use Rattle.calls.specs.OnBlock.{OnBlock, owedBy, movedBy, refused, stepOn, IsRun}
 use Rattle.calls.proofs.KeptLaws.{end-keeps}
 use Rattle.ch32_i2c.specs.Left.{Left, left, refusedWith, beginLeft, stepLeft}
 use Rattle.ch32_i2c.specs.Fed.{Entry, leftsFrom, lastFrom, handedOut, nextsOf, inTurn, stored, Still, EndsStill, Makes}
@@ -323,17 +323,26 @@ carries-unread {m} {bytes} {c} {image} {Good} k =
       ended = λ s r a g e q. k .ended s [] a g refl q ∙ ap (λ (x : List ℕ). refusedWith InvalidState (image s) x) (sym (nothing-read r e));
     }
 
--- ---- a call on a block whose states a machine comes to
+-- ---- a call on a block that is a machine's run
 
-module _ {m : Machine} (c : OnBlock) (at : m .State → c .machine .State) (Good : m .State → Type 0) (needs : (s : m .State) → c .machine .need (at s) ≡ m .need s)
-    (moves : (s : m .State) (a : ℕ) → c .machine .move (at s) a ≡ at (m .move s a)) (held : (s : m .State) → Good s → c .held (c .image (at s)) ≡ some (at s)) (bytes : List ℕ) (s : m .State) (r : List ℕ) (a : ℕ) (g : Good s) where
-  abbrev byHeld : Option (c .machine .State) → Left
-  byHeld o = beginLeft bytes (cond (not (isEnd (owedBy c o))) (movedBy c o (c .image (at s)) a) (refused InvalidState (c .image (at s)))) (kept (owedBy c o) a r)
+module _ {c : OnBlock} {m : Machine} {at : m .State → c .machine .State} {Reached : m .State → Type 0} (run : IsRun c m at Reached) (bytes : List ℕ) where
+  module _ (s : m .State) (r : List ℕ) (a : ℕ) (g : Reached s) where
+    abbrev byHeld : Option (c .machine .State) → Left
+    byHeld o = beginLeft bytes (cond (not (isEnd (owedBy c o))) (movedBy c o (c .image (at s)) a) (refused InvalidState (c .image (at s)))) (kept (owedBy c o) a r)
 
-  pub step-taken : isEnd (m .need s) ≡ false → stepLeft c bytes (c .image (at s)) r a ≡ left (filled bytes (m .need (m .move s a))) (c .image (at (m .move s a))) (kept (m .need s) a r)
-  unfolding stepOn
-  step-taken e = ap byHeld (held s g) ∙ rw (needs s, e, moves s a, needs (m .move s a))
+    step-taken : isEnd (m .need s) ≡ false → stepLeft c bytes (c .image (at s)) r a ≡ left (filled bytes (m .need (m .move s a))) (c .image (at (m .move s a))) (kept (m .need s) a r)
+    unfolding stepOn
+    step-taken e = ap byHeld (run .held s g) ∙ rw (run .needs s, e, run .moves s a, run .needs (m .move s a))
 
-  pub step-ended : isEnd (m .need s) ≡ true → stepLeft c bytes (c .image (at s)) r a ≡ refusedWith InvalidState (c .image (at s)) r
-  unfolding stepOn
-  step-ended e = ap byHeld (held s g) ∙ rw (needs s, e, end-keeps (m .need s) a r e)
+    step-ended : isEnd (m .need s) ≡ true → stepLeft c bytes (c .image (at s)) r a ≡ refusedWith InvalidState (c .image (at s)) r
+    unfolding stepOn
+    step-ended e = ap byHeld (run .held s g) ∙ rw (run .needs s, e, end-keeps (m .need s) a r e)
+
+  -- an entry whose step is that call's, with so many bytes to read
+  pub carries : (e : Entry) (room : ℕ) → ((b r : List ℕ) (a : ℕ) → length r ≡ room → e .step b r a ≡ stepLeft c bytes b r a) → Carries m bytes room e (λ s. c .image (at s)) Reached
+  carries e room step =
+      record {
+        stays = run .stays;
+        taken = λ s r a g l k. step (c .image (at s)) r a l ∙ step-taken s r a g k;
+        ended = λ s r a g l k. step (c .image (at s)) r a l ∙ step-ended s r a g k;
+      }

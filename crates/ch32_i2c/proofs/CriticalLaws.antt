@@ -13,11 +13,12 @@ use Rattle.block.specs.Fields.{sameFields}
 use Rattle.master.specs.declared.stage.Stage.{Stage}
 use Rattle.master.specs.declared.state.State.{State}
 use Rattle.stage_numbers.specs.MasterStage.{addressStageNumber, addressStageOf, readStageNumber, readStageOf, stopForNumber, stopForOf, halfNumber, halfOf, stageOf, isStage}
-use Rattle.stage_numbers.proofs.Bytes.{bytes}
-use Rattle.stage_numbers.proofs.Compared.{itself, turned, joined, with-true}
+use Rattle.access.proofs.Bytes.{bytes}
+use Rattle.access.proofs.Compared.{itself, turned, joined, with-true}
 use Rattle.stage_numbers.proofs.MasterStageRanges.{half-range}
 use Rattle.images.specs.declared.master_image.MasterFound.the-variants.{At, Nothing}
-use Rattle.images.specs.Numbers.{flagAt, isEnding}
+use Rattle.access.specs.Endings.{isEnding}
+use Rattle.images.specs.Numbers.{flagAt}
 use Rattle.images.specs.MasterImage.{masterFields, masterOf, masterIn, isCall}
 use Rattle.images.proofs.MasterImageRanges.{image-ranges}
 use Rattle.master_call.specs.CallStep.{isCallOf}
@@ -93,7 +94,7 @@ pub block-critical : (b : List ℕ) → isCallOf (getD b 0 0) b && (flagAt 1 (ge
 unfolding isCallOf masterIn masterOf fieldsOf
 block-critical b =
     rw (itself (getD b 0 0), picked (sameFields (masterFields (masterOf (fieldsOf b))) (fieldsOf b)) (masterOf (fieldsOf b)), image-ranges (fieldsOf b))
-    (reordered (isCall (fieldsOf b)) (isStage (getD b 3 0) (getD b 4 0) (getD b 5 0)) (isEnding (fieldsOf b .error) (fieldsOf b .value)) (flagAt 1 (getD b 6 0)) (inSection (stageOf (getD b 3 0) (getD b 4 0) (getD b 5 0))))
+    (reordered (isCall (fieldsOf b)) (isStage (getD b 3 0) (getD b 4 0) (getD b 5 0)) (isEnding (fieldsOf b .error) (fieldsOf b .value) (fieldsOf b .extra)) (flagAt 1 (getD b 6 0)) (inSection (stageOf (getD b 3 0) (getD b 4 0) (getD b 5 0))))
 
 -- ---- what C gets
 

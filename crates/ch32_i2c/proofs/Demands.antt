@@ -23,7 +23,7 @@ use Rattle.alike.specs.Like.{forgetEnd, forgetting}
 use Rattle.errors.proofs.CheckLaws.{others-stay}
 use Rattle.operations.specs.Operations.{operationsOf}
 use Rattle.operations.proofs.SumLaws.{written-runs}
-use Rattle.block.specs.Bytes32.{blockSize, Bytes}
+use Rattle.block.specs.Bytes32.{blockSize}
 use Rattle.timing.specs.declared.settings.Timed.{Timed}
 use Rattle.timing.specs.declared.settings.Timed.the-variants as timed
 use Rattle.timing.specs.Rust.{timing}
@@ -261,16 +261,16 @@ refuses (respondToRead chip reply) b r k e q = nothing-lent e b r _ k (response-
 stopped : (b bytes : List ℕ) (h : Left) → bytes ≡ [] → h ≡ refusedWith InvalidState b [] → h ≡ refusedWith InvalidState b bytes
 stopped b bytes h q k = nothing-lent InvalidState b bytes h q k
 
-stops : (c : Call) (block bytes : List ℕ) → Reads c bytes → Bytes block → takes c block bytes ≡ false → (a : ℕ) → entryOf c .step block bytes a ≡ refusedWith InvalidState block bytes
-stops (init chip input frequency duty) b r k w q a = stopped b r _ k (init-stops b a q)
-stops (transaction chip address list written) b r k w q a = master-stops transactionEntry b list written r a q
-stops (writeRead chip address written) b r k w q a = master-stops writeReadEntry b [] written r a q
-stops (write chip address option written) b r k w q a = stopped b r _ k (master-stops writeEntry b [] written [] a q)
-stops (read chip address option) b r k w q a = master-stops readEntry b [] [] r a q
-stops (initSlave ten address has second general stretching) b r k w q a = stopped b r _ k (init-slave-stops b a q)
-stops (listen chip) b r k w q a = stopped b r _ k (slave-stops Listen b (slaveLent.lentWith [] 0) [] [] a q)
-stops (respondToWrite chip) b r k w q a = slave-stops RespondToWrite b (slaveLent.lentWith [] (length r)) [] r a q
-stops (respondToRead chip reply) b r k w q a = stopped b r _ k (slave-stops RespondToRead b (slaveLent.lentWith reply 0) reply [] a q)
+stops : (c : Call) (block bytes : List ℕ) → Reads c bytes → takes c block bytes ≡ false → (a : ℕ) → entryOf c .step block bytes a ≡ refusedWith InvalidState block bytes
+stops (init chip input frequency duty) b r k q a = stopped b r _ k (init-stops b a q)
+stops (transaction chip address list written) b r k q a = master-stops transactionEntry b list written r a q
+stops (writeRead chip address written) b r k q a = master-stops writeReadEntry b [] written r a q
+stops (write chip address option written) b r k q a = stopped b r _ k (master-stops writeEntry b [] written [] a q)
+stops (read chip address option) b r k q a = master-stops readEntry b [] [] r a q
+stops (initSlave ten address has second general stretching) b r k q a = stopped b r _ k (init-slave-stops b a q)
+stops (listen chip) b r k q a = stopped b r _ k (slave-stops Listen b (slaveLent.lentWith [] 0) [] [] a q)
+stops (respondToWrite chip) b r k q a = slave-stops RespondToWrite b (slaveLent.lentWith [] (length r)) [] r a q
+stops (respondToRead chip reply) b r k q a = stopped b r _ k (slave-stops RespondToRead b (slaveLent.lentWith reply 0) reply [] a q)
 
 -- ---- a step that is taken
 

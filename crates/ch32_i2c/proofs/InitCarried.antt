@@ -3,11 +3,9 @@
 use mathlib.Core.Path.{_≡_, refl, ap, sym, _∙_}
 use mathlib.Core.Bool.{Bool, true, false, cond}
 use mathlib.Core.List.{List, []}
-use mathlib.Core.Option.{none, some}
+use mathlib.Core.Option.{none}
 use Prim.Native.Nat.{ℕ}
 use lib.ListN.{length}
-use Rattle.access.specs.declared.ending.Error.the-variants.{InvalidState}
-use Rattle.access.specs.Machine.{filled, kept}
 use Rattle.block.specs.Bytes32.{bytesOf}
 use Rattle.timing.specs.declared.init.Stage.{Stage}
 use Rattle.timing.specs.declared.init.Stage.the-variants as stages
@@ -19,32 +17,19 @@ use Rattle.slave.specs.declared.init.InitState.{InitState}
 use Rattle.slave.specs.Init as slave
 use Rattle.images.specs.InitImage.{initFields}
 use Rattle.images.specs.InitSlaveImage.{initSlaveFields}
-use Rattle.calls.specs.OnBlock.{OnBlock}
+use Rattle.calls.specs.OnBlock.{OnBlock, IsRun}
 use Rattle.calls.specs.Init as initCall
 use Rattle.calls.specs.InitSlave as initSlaveCall
-use Rattle.ch32_i2c.specs.Left.{left, refusedWith, stepLeft}
+use Rattle.ch32_i2c.specs.Left.{stepLeft}
 use Rattle.ch32_i2c.specs.Init as init
 use Rattle.ch32_i2c.specs.InitSlave as initSlave
 use Rattle.ch32_i2c.specs.Fed.{Entry}
 use Rattle.ch32_i2c.proofs.HeldLaws.{init-held, init-slave-held}
-use Rattle.ch32_i2c.proofs.Carried.{Carries, nothing-read, step-taken, step-ended}
+use Rattle.ch32_i2c.proofs.Carried.{Carries, carries, nothing-read}
 
--- a call that is lent nothing, and whose states are held by their blocks if they fit
-module _ (c : OnBlock) (Good : c .machine .State → Type 0) (stays : (s : c .machine .State) (a : ℕ) → Good s → Good (c .machine .move s a)) (held : (s : c .machine .State) → Good s → c .held (c .image s) ≡ some s) (e : Entry)
-    (step : (b r : List ℕ) (a : ℕ) → e .step b r a ≡ stepLeft c [] b [] a) where
-  abbrev same : c .machine .State → c .machine .State
-  same s = s
-
-  nothing-of : (r : List ℕ) → length r ≡ 0 → [] ≡ r
-  nothing-of r z = sym (nothing-read r z)
-
-  lends-nothing : Carries (c .machine) [] 0 e (c .image) Good
-  lends-nothing =
-      record {
-        stays = stays;
-        taken = λ s r a g z k. step (c .image s) r a ∙ step-taken {m = c .machine} c same Good (λ s. refl) (λ s a. refl) held [] s [] a g k ∙ ap (λ (x : List ℕ). left (filled [] (c .machine .need (c .machine .move s a))) (c .image (c .machine .move s a)) (kept (c .machine .need s) a x)) (nothing-of r z);
-        ended = λ s r a g z k. step (c .image s) r a ∙ step-ended {m = c .machine} c same Good (λ s. refl) (λ s a. refl) held [] s [] a g k ∙ ap (λ (x : List ℕ). refusedWith InvalidState (c .image s) x) (nothing-of r z);
-      }
+-- a call that is lent nothing
+nothing-read-on : (c : OnBlock) (b r : List ℕ) (a : ℕ) → length r ≡ 0 → stepLeft c [] b [] a ≡ stepLeft c [] b r a
+nothing-read-on c b r a z = ap (λ (x : List ℕ). stepLeft c [] b x a) (sym (nothing-read r z))
 
 -- ---- init
 
@@ -81,10 +66,12 @@ initImage s = bytesOf (initFields s)
 abbrev pub initEntry : ℕ → ℕ → ℕ → ℕ → Entry
 initEntry chip input frequency duty = record { begin = λ b r. init.initBegin b chip input frequency duty; step = λ b r a. init.initStep b a }
 
+init-run : IsRun initCall.initOn timing.initMachine (λ s. s) InitFit
+init-run = record { needs = λ s. refl; moves = λ s a. refl; stays = λ s a g. ap initCall.inRange (settings-stay s a) ∙ g; held = λ s g. ap initCall.stateIn (init-held s g) }
+
 pub init-carries : (chip input frequency duty : ℕ) → Carries timing.initMachine [] 0 (initEntry chip input frequency duty) initImage InitFit
 unfolding init.initStep
-init-carries chip input frequency duty =
-    lends-nothing initCall.initOn InitFit (λ s a g. ap initCall.inRange (settings-stay s a) ∙ g) (λ s g. ap initCall.stateIn (init-held s g)) (initEntry chip input frequency duty) (λ b r a. refl)
+init-carries chip input frequency duty = carries init-run [] (initEntry chip input frequency duty) 0 (nothing-read-on initCall.initOn)
 
 -- ---- init_slave
 
@@ -114,7 +101,11 @@ abbrev pub initSlaveEntry : ℕ → ℕ → ℕ → ℕ → ℕ → ℕ → Entr
 initSlaveEntry ten address has second general stretching =
     record { begin = λ b r. initSlave.initSlaveBegin b ten address has second general stretching; step = λ b r a. initSlave.initSlaveStep b a }
 
+init-slave-run : IsRun initSlaveCall.initSlaveOn slave.initMachine (λ s. s) InitSlaveFit
+init-slave-run =
+    record { needs = λ s. refl; moves = λ s a. refl; stays = λ s a g. ap slave.initRefusal (config-stays s a) ∙ g; held = λ s g. ap initSlaveCall.stateIn (init-slave-held s g) }
+
 pub init-slave-carries : (ten address has second general stretching : ℕ) → Carries slave.initMachine [] 0 (initSlaveEntry ten address has second general stretching) initSlaveImage InitSlaveFit
 unfolding initSlave.initSlaveStep
 init-slave-carries ten address has second general stretching =
-    lends-nothing initSlaveCall.initSlaveOn InitSlaveFit (λ s a g. ap slave.initRefusal (config-stays s a) ∙ g) (λ s g. ap initSlaveCall.stateIn (init-slave-held s g)) (initSlaveEntry ten address has second general stretching) (λ b r a. refl)
+    carries init-slave-run [] (initSlaveEntry ten address has second general stretching) 0 (nothing-read-on initSlaveCall.initSlaveOn)

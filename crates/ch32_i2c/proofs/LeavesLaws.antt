@@ -3,8 +3,10 @@
 use mathlib.Core.Path.{_≡_, refl, ap, sym, subst, _∙_}
 use mathlib.Core.Bool.{cond}
 use mathlib.Core.List.{List, []}
-use Prim.Native.Nat.{ℕ, _%_}
+use Prim.Native.Nat.{ℕ}
 use lib.ListN.{set}
+use Rattle.registers.specs.Word.{fieldOf}
+use Rattle.registers.specs.Fields.{DATA}
 use Rattle.access.specs.declared.need.Need.{Need}
 use Rattle.access.specs.Machine.{filled}
 use Rattle.access.specs.Numbers.{nextNumber, HoldsWords}
@@ -27,7 +29,7 @@ module _ (bytes : List ℕ) (k : ℕ) where
 
     module _ (c : OnBlock) (before : List ℕ) (a : ℕ) where
       -- where a byte may be stored
-      pub step-leaves : (r r′ : List ℕ) (s : Stepped) → DoesKeeping c before a s b → Numbers (s .need) → r′ ≡ cond (s .keeps) (set r (s .place) (a % 256)) r → Leaves (stepLeft c bytes before r a) k b r′
+      pub step-leaves : (r r′ : List ℕ) (s : Stepped) → DoesKeeping c before a s b → Numbers (s .need) → r′ ≡ cond (s .keeps) (set r (s .place) (fieldOf DATA a)) r → Leaves (stepLeft c bytes before r a) k b r′
       step-leaves r r′ s d q e =
           let l = begin-leaves (stepOn c before a) r (s .need) (d .does) q in
           record { number = l .number; words = l .words; block = l .block; read = e ∙ sym (d .keeps r) }

@@ -21,12 +21,12 @@ use Rattle.slave.specs.Steps.{stateAt, fitsLent, isOpen, needOf}
 use Rattle.slave.proofs.FitsKept.{states-fit}
 use Rattle.slave_driver.specs.Lent.{lentWith}
 use Rattle.images.specs.SlaveImage.{slaveFields, kindEntry}
-use Rattle.calls.specs.OnBlock.{OnBlock}
+use Rattle.calls.specs.OnBlock.{OnBlock, IsRun}
 use Rattle.calls.specs.Response.{fitting, moved, responseOn, responseBegin}
 use Rattle.ch32_i2c.specs.Left.{beginLeft, stepLeft}
 use Rattle.ch32_i2c.specs.Fed.{Entry}
 use Rattle.ch32_i2c.proofs.HeldLaws.{slave-held}
-use Rattle.ch32_i2c.proofs.Carried.{Carries, step-taken, step-ended}
+use Rattle.ch32_i2c.proofs.Carried.{Carries, carries}
 
 module _ (chip : Chip) (x : Kind) (l : SlaveLent) where
   abbrev pub imageOf : Move → List ℕ
@@ -69,10 +69,8 @@ module _ (chip : Chip) (x : Kind) (l : SlaveLent) where
     held : (m : Move) → Fit m → onBlock .held (imageOf m) ≡ some (stateAt (settingOf chip x l) m)
     held m g = ap (fitting (sizeOf x l)) (slave-held (stateAt (settingOf chip x l) m)) ∙ rw (fits-lent m g)
 
+    response-run : IsRun onBlock (slave (settingOf chip x l)) (stateAt (settingOf chip x l)) Fit
+    response-run = record { needs = needs; moves = moves; stays = states-fit .kept (settingOf chip x l); held = held }
+
     pub response-carries : (n : ℕ) → Carries (slave (settingOf chip x l)) (calls.bytesOf x l) (l .room) (responseEntry n) imageOf Fit
-    response-carries n =
-        record {
-          stays = λ m a g. states-fit .kept (settingOf chip x l) m a g;
-          taken = λ m r a g e k. on-block n (imageOf m) r a e ∙ step-taken {m = slave (settingOf chip x l)} onBlock (stateAt (settingOf chip x l)) Fit needs moves held (calls.bytesOf x l) m r a g k;
-          ended = λ m r a g e k. on-block n (imageOf m) r a e ∙ step-ended {m = slave (settingOf chip x l)} onBlock (stateAt (settingOf chip x l)) Fit needs moves held (calls.bytesOf x l) m r a g k;
-        }
+    response-carries n = carries response-run (calls.bytesOf x l) (responseEntry n) (l .room) (on-block n)

@@ -17,13 +17,13 @@ use Rattle.master.specs.Calls.{Lent, lentWith, shapeOf, refusal, Accepted}
 use Rattle.master.specs.Steps.{stateAt, isNone, fitsLent, isOpen, needOf}
 use Rattle.master.proofs.AcceptedFits.{states-fit}
 use Rattle.images.specs.MasterImage.{masterFields, kindEntry}
-use Rattle.calls.specs.OnBlock.{OnBlock}
+use Rattle.calls.specs.OnBlock.{OnBlock, IsRun}
 use Rattle.calls.specs.Transfer.{fitting, moved, transferOn}
 use Rattle.ch32_i2c.specs.Left.{stepLeft}
 use Rattle.ch32_i2c.specs.Transfer.{masterStep, masterBegin}
 use Rattle.ch32_i2c.specs.Fed.{Entry}
 use Rattle.ch32_i2c.proofs.HeldLaws.{master-held}
-use Rattle.ch32_i2c.proofs.Carried.{Carries, step-taken, step-ended}
+use Rattle.ch32_i2c.proofs.Carried.{Carries, carries}
 
 module _ (c : Call) (l : Lent) where
   -- the call, with what is lent
@@ -67,10 +67,8 @@ module _ (c : Call) (l : Lent) where
     held : (m : Move) → Fit m → onBlock .held (imageOf m) ≡ some (stateAt c m)
     held m g = ap (fitting (l .list) (length (l .written)) (l .room)) (master-held (stateAt c m)) ∙ rw (fits-lent m g)
 
+    transfer-run : IsRun onBlock (master (shapeOf c l)) (stateAt c) Fit
+    transfer-run = record { needs = needs; moves = moves; stays = states-fit .kept c l accepted; held = held }
+
     pub transfer-carries : (unknown : Bool) → Carries (master (shapeOf c l)) (l .written) (l .room) (transferEntry unknown) imageOf Fit
-    transfer-carries unknown =
-        record {
-          stays = λ m a g. states-fit .kept c l accepted m a g;
-          taken = λ m r a g e k. on-block unknown (imageOf m) r a e ∙ step-taken {m = master (shapeOf c l)} onBlock (stateAt c) Fit needs moves held (l .written) m r a g k;
-          ended = λ m r a g e k. on-block unknown (imageOf m) r a e ∙ step-ended {m = master (shapeOf c l)} onBlock (stateAt c) Fit needs moves held (l .written) m r a g k;
-        }
+    transfer-carries unknown = carries transfer-run (l .written) (transferEntry unknown) (l .room) (on-block unknown)

@@ -3,8 +3,10 @@
 use mathlib.Core.Path.{_≡_, ap, subst, _∙_}
 use mathlib.Core.Bool.{Bool, cond}
 use mathlib.Core.List.{List, []}
-use Prim.Native.Nat.{ℕ, _%_}
+use Prim.Native.Nat.{ℕ}
 use lib.ListN.{length, set}
+use Rattle.registers.specs.Word.{fieldOf}
+use Rattle.registers.specs.Fields.{DATA}
 use Rattle.access.specs.declared.need.Need.{Need}
 use Rattle.images.specs.MasterImage.{frameOptionsOf}
 use Rattle.master.specs.declared.call.Call.{Call}
@@ -26,7 +28,7 @@ module _ (unknown : Bool) (c : Call) (b : List ℕ) (l : Lent) (r : List ℕ) (k
 
 module _ (entry : ℕ) (b list written : List ℕ) (a k : ℕ) (after : List ℕ) where
   pub stepped : (r r′ : List ℕ) (s : Stepped) → DoesKeeping (transferOn list (length written) (length r) entry) b a s after → Numbers written k (s .need)
-      → r′ ≡ cond (s .keeps) (set r (s .place) (a % 256)) r → Leaves (masterStep entry b list written r a) k after r′
+      → r′ ≡ cond (s .keeps) (set r (s .place) (fieldOf DATA a)) r → Leaves (masterStep entry b list written r a) k after r′
   unfolding masterStep
   stepped r r′ s d q e = step-leaves written k after (transferOn list (length written) (length r) entry) b a r r′ s d q e
 

@@ -45,7 +45,7 @@ use Rattle.alike.specs.Like.{forgetEnd, forgetting}
 use Rattle.errors.specs.AsTheRust.{asTheRust}
 use Rattle.operations.specs.Operations.{operationsOf}
 use Rattle.operations.specs.Runs.{isEmpty}
-use Rattle.block.specs.Bytes32.{blockSize, Bytes}
+use Rattle.block.specs.Bytes32.{blockSize}
 use Rattle.timing.specs.declared.settings.Timed.{Timed}
 use Rattle.timing.specs.declared.settings.Timed.the-variants as timed
 use Rattle.timing.specs.Rust.{timing}
@@ -348,7 +348,7 @@ pub record Demand1 : Type 0 where
   -- a bad call: begin refuses with the first cause, and then every lent byte is as before
   pub refuses : (c : Call) (block bytes : List ℕ) → Reads c bytes → (e : Error) → refusalOf c (length block) (length bytes) ≡ some e → entryOf c .begin block bytes ≡ refusedWith e block bytes
   -- a bad step, on a block that is not taken: it is refused with 15, and every lent byte is as before; no other step answers 15
-  pub stops : (c : Call) (block bytes : List ℕ) → Reads c bytes → Bytes block → takes c block bytes ≡ false → (a : ℕ) → entryOf c .step block bytes a ≡ refusedWith InvalidState block bytes
+  pub stops : (c : Call) (block bytes : List ℕ) → Reads c bytes → takes c block bytes ≡ false → (a : ℕ) → entryOf c .step block bytes a ≡ refusedWith InvalidState block bytes
   pub goes : (c : Call) (block bytes : List ℕ) → takes c block bytes ≡ true → (a : ℕ) → (entryOf c .step block bytes a .next ≡ next.End (failed InvalidState)) → ⊥
 
 -- ---- demand 2: the Rust's accesses

@@ -4,10 +4,10 @@ ghost use mathlib.Core.Bool.{_&&_};
 ghost use lib.Dec.{eqb};
 ghost use Rattle.stage_numbers.specs.MasterStage.{readStageNumber, readStageOf, stageOf, isStage};
 ghost use Rattle.ch32_i2c.specs.Critical.{inReadSection, inSection, critical};
+use block::at;
 use block::bytes32;
 use images::numbers;
 use master_call::held;
-use master_step::put;
 use master_step::stage;
 
 // A read's own accesses: ACK off and START behind one byte; START before the last two bytes, and these.
@@ -38,10 +38,10 @@ pub extern "C" fn ch32_i2c_is_critical(block: &[u8]) -> u64
     if block.len() != bytes32::BLOCK_SIZE {
         return 0;
     }
-    let reading = numbers::flag_at(1, block[put::MARKS]);
-    let section = in_section(block[put::GROUP], block[put::WHAT], block[put::PHASE]);
+    let reading = numbers::flag_at(1, block[at::MARKS]);
+    let section = in_section(block[at::GROUP], block[at::WHAT], block[at::PHASE]);
     if reading & section {
-        if held::is_call_of(block, block[0]) {
+        if held::is_call_of(block, block[at::ENTRY]) {
             1
         } else {
             0

@@ -1,3 +1,4 @@
+pub mod EndImageLaws
 pub mod NumberLaws
 pub mod NumberRanges
 pub mod Found

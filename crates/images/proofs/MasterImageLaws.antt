@@ -12,7 +12,7 @@ use Rattle.master.specs.declared.state.State.{State}
 use Rattle.images.specs.declared.master_image.MasterFound.the-variants.{At, Nothing}
 use Rattle.images.specs.MasterImage.{frameOptionsNumber, frameOptionsOf, kindEntry, kindOption, kindOf, masterFields, masterOf, masterIn}
 use Rattle.images.proofs.NumberLaws.{chip-back}
-use Rattle.access.proofs.NumberLaws.{ending-back}
+use Rattle.access.proofs.EndingLaws.{ending-back}
 use Rattle.stage_numbers.proofs.MasterStageLaws.{stage-back}
 use Rattle.images.proofs.Found.{found-state, found-image}
 use mathlib.Core.Bool.{Bool, true, false}

@@ -5,15 +5,16 @@ use mathlib.Core.Path.{_≡_, refl, sym, subst}
 use mathlib.Core.Bool.{Bool, true, false, _&&_, _||_}
 use lib.Dec.{eqb, ltb}
 use borrow.Author.Tests.{eqb-true}
+use Rattle.access.specs.Endings.{isEnding}
 use Rattle.block.specs.declared.fields.Fields.{Fields}
 use Rattle.block.specs.Fields.{sameFields}
 use Rattle.master.specs.declared.call.Kind.the-variants as kind
 use Rattle.images.specs.declared.master_image.MasterFound.the-variants.{At, Nothing}
-use Rattle.images.specs.Numbers.{isFlag, isChip, isEnding}
+use Rattle.images.specs.Numbers.{isFlag, isChip}
 use Rattle.stage_numbers.specs.MasterStage.{isStage}
 use Rattle.images.specs.MasterImage.{frameOptionsOf, kindEntry, kindOption, kindOf, isKind, masterFields, masterOf, unusedEmpty, isCall, masterIn}
-use Rattle.stage_numbers.proofs.Bytes.{bytes}
-use Rattle.stage_numbers.proofs.Compared.{turned, itself, joined, reordered}
+use Rattle.access.proofs.Bytes.{bytes}
+use Rattle.access.proofs.Compared.{turned, itself, joined, reordered}
 
 abbrev kindTest : ℕ → ℕ → Bool
 kindTest n o = (ltb 1 n && ltb n 6) && (ltb o 6 && (ltb 3 n || eqb o 0))
@@ -57,18 +58,18 @@ kind-range n o h k = go (eqb n 2) (eqb n 3) (eqb n 4) (eqb n 5) refl refl refl r
     go false false false true e2 e3 e4 e5 = is 5 e5 (read-range o k)
     go false false false false e2 e3 e4 e5 = no-kind n o h e2 e3 e4 e5
 
-pub image-ranges : (f : Fields) → sameFields (masterFields (masterOf f)) f ≡ isCall f && (isStage (f .stage) (f .what) (f .phase) && isEnding (f .error) (f .value))
+pub image-ranges : (f : Fields) → sameFields (masterFields (masterOf f)) f ≡ isCall f && (isStage (f .stage) (f .what) (f .phase) && isEnding (f .error) (f .value) (f .extra))
 unfolding sameFields masterFields masterOf isCall isKind isChip isStage isEnding isFlag unusedEmpty
 image-ranges f =
-    rw (itself (f .run), itself (f .left), itself (f .place), itself (f .word), itself (f .divider), itself (f .rise), itself (f .address), turned 0 (f .count), turned 0 (f .second), turned 0 (f .mhz), turned 0 (f .unused), joined (isFlag (f .marks)) (eqb (f .count) 0) (eqb (f .second) 0 && (eqb (f .mhz) 0 && eqb (f .unused) 0)))
-    (reordered (eqb (kindEntry (kindOf (f .entry) (f .option))) (f .entry)) (eqb (kindOption (kindOf (f .entry) (f .option))) (f .option)) (isChip (f .chip)) (isStage (f .stage) (f .what) (f .phase)) (isEnding (f .error) (f .value)) (isFlag (f .marks) && unusedEmpty f))
+    rw (itself (f .run), itself (f .left), itself (f .place), itself (f .word), itself (f .divider), itself (f .rise), itself (f .address), turned 0 (f .count), turned 0 (f .second), turned 0 (f .mhz), joined (isFlag (f .marks)) (eqb (f .count) 0) (eqb (f .second) 0 && eqb (f .mhz) 0))
+    (reordered (eqb (kindEntry (kindOf (f .entry) (f .option))) (f .entry)) (eqb (kindOption (kindOf (f .entry) (f .option))) (f .option)) (isChip (f .chip)) (isStage (f .stage) (f .what) (f .phase)) (isEnding (f .error) (f .value) (f .extra)) (isFlag (f .marks) && unusedEmpty f))
 
 -- what is found by the tests, one after the other
-pub found : (f : Fields) → isCall f ≡ true → isStage (f .stage) (f .what) (f .phase) ≡ true → isEnding (f .error) (f .value) ≡ true → At (masterOf f) ≡ masterIn f
+pub found : (f : Fields) → isCall f ≡ true → isStage (f .stage) (f .what) (f .phase) ≡ true → isEnding (f .error) (f .value) (f .extra) ≡ true → At (masterOf f) ≡ masterIn f
 unfolding masterIn
 found f c s e = rw (image-ranges f, c, s, e)
 
-pub no-ending : (f : Fields) → isCall f ≡ true → isStage (f .stage) (f .what) (f .phase) ≡ true → isEnding (f .error) (f .value) ≡ false → Nothing ≡ masterIn f
+pub no-ending : (f : Fields) → isCall f ≡ true → isStage (f .stage) (f .what) (f .phase) ≡ true → isEnding (f .error) (f .value) (f .extra) ≡ false → Nothing ≡ masterIn f
 unfolding masterIn
 no-ending f c s e = rw (image-ranges f, c, s, e)
 

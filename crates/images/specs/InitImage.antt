@@ -31,7 +31,7 @@ stageOf n = cond (eqb n 0) stage.DisableRead (cond (eqb n 1) stage.DisableWrite 
 
 -- what a block says of a state; the rise time stands where a second address does
 unfoldable pub initFields : State → Fields
-initFields s = record { entry = initEntry; chip = chipNumber (s .chip); option = 0; stage = stageNumber (s .stage); what = 0; phase = 0; marks = flagsNumber (s .timing .fast) (s .timing .duty) false false; error = 0; address = 0; run = 0; left = 0; place = 0; word = s .saved; divider = s .timing .divider; rise = 0; value = 0; count = 0; second = s .timing .rise; mhz = s .timing .«input_mhz»; unused = 0 }
+initFields s = record { entry = initEntry; chip = chipNumber (s .chip); option = 0; stage = stageNumber (s .stage); what = 0; phase = 0; marks = flagsNumber (s .timing .fast) (s .timing .duty) false false; error = 0; address = 0; run = 0; left = 0; place = 0; word = s .saved; divider = s .timing .divider; rise = 0; value = 0; count = 0; second = s .timing .rise; mhz = s .timing .«input_mhz»; extra = 0 }
 
 -- the state that a block says, if it is the image of one
 unfoldable pub initOf : Fields → State

@@ -53,7 +53,7 @@ secondOf has a = cond has (second.At a) second.Nothing
 
 -- what a block says of a state
 unfoldable pub initSlaveFields : InitState → Fields
-initSlaveFields s = record { entry = initSlaveEntry; chip = 0; option = 0; stage = initStageNumber (s .stage); what = 0; phase = 0; marks = flagsNumber (isTen (s .config .address)) (hasSecond (s .config .«second_address»)) (s .config .«general_call») (s .config .«clock_stretching»); error = 0; address = addressWord (s .config .address); run = 0; left = 0; place = 0; word = s .saved; divider = 0; rise = 0; value = 0; count = 0; second = secondByte (s .config .«second_address»); mhz = 0; unused = 0 }
+initSlaveFields s = record { entry = initSlaveEntry; chip = 0; option = 0; stage = initStageNumber (s .stage); what = 0; phase = 0; marks = flagsNumber (isTen (s .config .address)) (hasSecond (s .config .«second_address»)) (s .config .«general_call») (s .config .«clock_stretching»); error = 0; address = addressWord (s .config .address); run = 0; left = 0; place = 0; word = s .saved; divider = 0; rise = 0; value = 0; count = 0; second = secondByte (s .config .«second_address»); mhz = 0; extra = 0 }
 
 -- the state that a block says, if it is the image of one
 unfoldable pub initSlaveOf : Fields → InitState

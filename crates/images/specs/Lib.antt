@@ -1,4 +1,5 @@
 pub mod Numbers
+pub mod EndImage
 pub mod InitImage
 pub mod MasterImage
 pub mod InitSlaveImage

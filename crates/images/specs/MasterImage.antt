@@ -2,7 +2,7 @@
 use Prim.Native.Nat.{ℕ}
 use mathlib.Core.Bool.{Bool, cond, _&&_}
 use lib.Dec.{eqb}
-use Rattle.access.specs.Endings.{endingOf, endingError, endingValue}
+use Rattle.access.specs.Endings.{endingOf, endingError, endingValue, endingExtra}
 use Rattle.block.specs.declared.fields.Fields.{Fields}
 use Rattle.block.specs.Fields.{sameFields}
 use Rattle.master.specs.declared.call.FrameOptions.{FrameOptions}
@@ -50,7 +50,7 @@ isKind entry option = eqb (kindEntry (kindOf entry option)) entry && eqb (kindOp
 
 -- what a block says of a state
 unfoldable pub masterFields : State → Fields
-masterFields s = record { entry = kindEntry (s .call .kind); chip = chipNumber (s .call .chip); option = kindOption (s .call .kind); stage = stageGroup (s .stage); what = stageWhat (s .stage); phase = stagePhase (s .stage); marks = flagNumber (s .progress .reading); error = endingError (s .progress .ending); address = s .call .address; run = s .progress .run; left = s .progress .left; place = s .progress .place; word = s .progress .word; divider = s .progress .divider; rise = s .progress .rise; value = endingValue (s .progress .ending); count = 0; second = 0; mhz = 0; unused = 0 }
+masterFields s = record { entry = kindEntry (s .call .kind); chip = chipNumber (s .call .chip); option = kindOption (s .call .kind); stage = stageGroup (s .stage); what = stageWhat (s .stage); phase = stagePhase (s .stage); marks = flagNumber (s .progress .reading); error = endingError (s .progress .ending); address = s .call .address; run = s .progress .run; left = s .progress .left; place = s .progress .place; word = s .progress .word; divider = s .progress .divider; rise = s .progress .rise; value = endingValue (s .progress .ending); count = 0; second = 0; mhz = 0; extra = endingExtra (s .progress .ending) }
 
 -- the state that a block says, if it is the image of one
 unfoldable pub masterOf : Fields → State
@@ -59,12 +59,12 @@ masterOf f =
       call = record { chip = chipOf (f .chip); address = f .address; kind = kindOf (f .entry) (f .option) };
       stage = stageOf (f .stage) (f .what) (f .phase);
       progress =
-          record { reading = flagAt 1 (f .marks); run = f .run; left = f .left; place = f .place; word = f .word; divider = f .divider; rise = f .rise; ending = endingOf (f .error) (f .value) };
+          record { reading = flagAt 1 (f .marks); run = f .run; left = f .left; place = f .place; word = f .word; divider = f .divider; rise = f .rise; ending = endingOf (f .error) (f .value) (f .extra) };
     }
 
 -- the numbers that no master call has a use for are 0
 unfoldable pub unusedEmpty : Fields → Bool
-unusedEmpty f = eqb (f .count) 0 && (eqb (f .second) 0 && (eqb (f .mhz) 0 && eqb (f .unused) 0))
+unusedEmpty f = eqb (f .count) 0 && (eqb (f .second) 0 && eqb (f .mhz) 0)
 
 -- the numbers beside those of the stage and the ending are an image's
 unfoldable pub isCall : Fields → Bool

@@ -1,9 +1,8 @@
--- Numbers that the blocks of several calls share: the entry, the chip, flags, and how a call is to end.
+-- Numbers that the blocks of several calls share: the entry, the chip, and flags.
 use Prim.Native.Nat.{ℕ, _+_, _*_, _/_, _%_}
-use mathlib.Core.Bool.{Bool, false, cond, _&&_}
+use mathlib.Core.Bool.{Bool, false, cond}
 use lib.Dec.{eqb}
 use Rattle.registers.specs.declared.chip.Chip.{Chip}
-use Rattle.access.specs.Endings.{endingError, endingValue, endingOf}
 
 -- the entries, in the order of the C header
 abbrev pub initEntry : ℕ
@@ -56,7 +55,3 @@ chipOf n = record { «i2c_v3» = flagAt 1 n; ch32v4 = flagAt 2 n }
 
 unfoldable pub isChip : ℕ → Bool
 isChip n = eqb (chipNumber (chipOf n)) n
-
--- the number and the value of an ending
-unfoldable pub isEnding : ℕ → ℕ → Bool
-isEnding n v = eqb (endingError (endingOf n v)) n && eqb (endingValue (endingOf n v)) v

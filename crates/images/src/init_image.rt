@@ -81,7 +81,7 @@ pub fn init_fields(s: State) -> Fields
         count: 0,
         second: timing.rise,
         mhz: timing.input_mhz,
-        unused: 0,
+        extra: 0,
     }
 }
 

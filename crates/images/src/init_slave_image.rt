@@ -138,7 +138,7 @@ pub fn init_slave_fields(s: InitState) -> Fields
         count: 0,
         second: second_byte(second),
         mhz: 0,
-        unused: 0,
+        extra: 0,
     }
 }
 

@@ -1,4 +1,5 @@
 // What the states of the calls are in a block.
+pub mod end_image;
 pub mod init_image;
 pub mod init_slave_image;
 pub mod master_image;

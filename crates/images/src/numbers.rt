@@ -1,12 +1,10 @@
-// Numbers that the blocks of several calls share: the entry, the chip, flags, and how a call is to end.
+// Numbers that the blocks of several calls share: the entry, the chip, and flags.
 ghost use mathlib.Core.Path.{_≡_};
 ghost use Prim.Native.Nat.{_≤_, _<_};
-ghost use Rattle.images.specs.Numbers.{flagNumber, flagsNumber, flagAt, isFlag, chipNumber, chipOf, isChip, isEnding};
+ghost use Rattle.images.specs.Numbers.{flagNumber, flagsNumber, flagAt, isFlag, chipNumber, chipOf, isChip};
 use registers::Chip;
 
-// The entries, in the order of the C header.
-pub const INIT: u8 = 1;
-
+// The entries, in the order of the C header; `init` is 1.
 pub const TRANSACTION: u8 = 2;
 
 pub const WRITE_READ: u8 = 3;
@@ -71,15 +69,4 @@ pub fn is_chip(number: u8) -> bool
     ensures { λ r. ⌜ r ≡ isChip number ⌝ }
 {
     number < 4
-}
-
-// Whether these are the numbers of an ending. No error is number 7, and a call that fails returns nothing.
-pub fn is_ending(error: u8, value: u16) -> bool
-    ensures { λ r. ⌜ r ≡ isEnding error value ⌝ }
-{
-    match error {
-        0 => true,
-        7 => false,
-        _ => (error < 28) & (value == 0),
-    }
 }

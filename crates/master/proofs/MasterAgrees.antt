@@ -3,7 +3,7 @@
 use mathlib.Core.Path.{_≡_, refl, sym, ap, _∙_, subst}
 use mathlib.Core.Bool.{Bool, true, false, cond, not, _&&_, _||_, true≢false}
 use mathlib.Core.List.{List, [], _∷_, _++_}
-use Prim.Native.Nat.{ℕ, zero, suc, _+_, _%_, _≤_, _<_}
+use Prim.Native.Nat.{ℕ, zero, suc, _+_, _≤_, _<_}
 use native.Mathlib.Nat.{add-zero, add-suc, suc-add}
 use native.Mathlib.Numerals.{add-one, add-two, add-three}
 use native.Mathlib.Omega.{arith}
@@ -12,7 +12,7 @@ use lib.Dec.{eqb, leb, ltb, eqb·suc-zero}
 use lib.ListN.{length, getD, drop}
 use Rattle.registers.specs.declared.register.Register.the-variants.{Ctlr1, Ctlr2, Datar, Star1, Star2, Ckcfgr, Rtr}
 use Rattle.registers.specs.Bits.{PE, START, STOP, ACK, POS, SWRST, SB, ADDR, BTF, RXNE, TXE, MSL}
-use Rattle.registers.specs.Fields.{FREQ}
+use Rattle.registers.specs.Fields.{FREQ, DATA}
 use Rattle.registers.specs.Word.{hasBit, putBit, fieldOf, putField}
 use Rattle.registers.specs.Flags.{errorFlags}
 use Rattle.registers.specs.Addresses.{addressWord}
@@ -308,7 +308,7 @@ module _ (sh : Shape) (bytes : List ℕ) where
       → Ag n at (recv-next chip n h k) (to (Wait Rxne wait.Status) (counted true (suc l) at d))
   unfolding text.recv-next text.recv-byte checkTimeout owed advance
   recv-next-agrees n at l h k d low H K =
-      rx-turns n n at h (access (read Datar) (λ a. keep (a % 256) (k tt))) (counted true (suc l) at d) H (λ v. keeps refl (λ _.
+      rx-turns n n at h (access (read Datar) (λ a. keep (fieldOf DATA a) (k tt))) (counted true (suc l) at d) H (λ v. keeps refl (λ _.
       along (ap (λ (x : ℕ). readBytes (sh .setting) (run d) (counted true l x (saves v d))) (sym (next-place at low))) (K v)))
 
   -- ---- blocking_read_iter
@@ -359,7 +359,7 @@ module _ (sh : Shape) (bytes : List ℕ) where
       (reads refl (λ w. writes refl (λ _. both w)))
       (reads refl (λ w. writes refl (λ _. both w))))
     where
-      both : (w : ℕ) → Ag n at (access (read Datar) (λ a. keep (a % 256) (access (read Datar) (λ b. keep (b % 256) (k tt))))) (to (ReadIter reading.SecondLast) (counted true 2 at (saves w d)))
+      both : (w : ℕ) → Ag n at (access (read Datar) (λ a. keep (fieldOf DATA a) (access (read Datar) (λ b. keep (fieldOf DATA b) (k tt))))) (to (ReadIter reading.SecondLast) (counted true 2 at (saves w d)))
       both w =
           keeps refl (λ _. along (ap (λ (x : ℕ). to (ReadIter reading.Last) (counted true 1 x (saves w d))) (sym (next-place at (omega arith))))
           (keeps refl (λ _. along (ap (λ (x : ℕ). finished (sh .setting) (run d) (counted true 0 x (saves w d))) (sym (next-place (suc at) (omega arith)))) (K w))))

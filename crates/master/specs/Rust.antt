@@ -2,13 +2,13 @@
 -- places on the text is over parts that stand above it under the same names: those are the Rust's, and Ours.antt has others.
 use mathlib.Core.Bool.{Bool, true, false, cond, not, _&&_, _||_}
 use mathlib.Core.List.{List, [], _∷_}
-use Prim.Native.Nat.{ℕ, zero, suc, _+_, _%_, _^_}
+use Prim.Native.Nat.{ℕ, zero, suc, _+_, _^_}
 use lib.Dec.{eqb, leb, ltb}
 use lib.ListN.{length}
 use Rattle.registers.specs.declared.chip.Chip.{Chip}
 use Rattle.registers.specs.declared.register.Register.the-variants.{Ctlr1, Ctlr2, Datar, Star1, Star2, Ckcfgr, Rtr}
 use Rattle.registers.specs.Bits.{PE, START, STOP, ACK, POS, SWRST, ITERREN, ITEVTEN, ITBUFEN, DMAEN, LAST, SB, ADDR, BTF, RXNE, TXE, BERR, ARLO, AF, OVR, PECERR, TIMEOUT, MSL}
-use Rattle.registers.specs.Fields.{FREQ}
+use Rattle.registers.specs.Fields.{FREQ, DATA}
 use Rattle.registers.specs.Word.{hasBit, putBit, fieldOf, putField}
 use Rattle.registers.specs.Flags.{errorFlags, clearError}
 use Rattle.registers.specs.Addresses.{addressWord}
@@ -232,7 +232,7 @@ module _ (chip : Chip) where
             pure (not (hasBit RXNE star1)))
           checkTimeout
       datar ← readRegister Datar
-      pure (datar % 256)
+      pure (fieldOf DATA datar)
 
     unfoldable pub wait-btf : Blocking (Unit {0})
     wait-btf = wait-flag BTF
@@ -247,7 +247,7 @@ module _ (chip : Chip) where
     unfoldable pub take-next : Blocking (Unit {0})
     take-next = do
       datar ← readRegister Datar
-      store (datar % 256)
+      store (fieldOf DATA datar)
 
     -- `for value in buffer { *value = self.recv_byte(timeout)?; }`
     unfoldable pub recv-all : ℕ → Blocking (Unit {0})

@@ -67,7 +67,7 @@ here-is c r reading option e o = rw (e, o) (kind-here (isRead (r .direction)) (r
 -- ---- the numbers of a call that has done nothing yet
 
 pub begun-is : (c : Call) (group entry chip option : ℕ) → entry ≡ kindEntry (c .kind) → chip ≡ chipNumber (c .chip) → option ≡ kindOption (c .kind)
-    → record { entry = entry; chip = chip; option = option; stage = group; what = 0; phase = 0; marks = 0; error = 0; address = c .address; run = 0; left = 0; place = 0; word = 0; divider = 0; rise = 0; value = 0; count = 0; second = 0; mhz = 0; unused = 0 } ≡ fieldsAt c fresh group 0 0
+    → record { entry = entry; chip = chip; option = option; stage = group; what = 0; phase = 0; marks = 0; error = 0; address = c .address; run = 0; left = 0; place = 0; word = 0; divider = 0; rise = 0; value = 0; count = 0; second = 0; mhz = 0; extra = 0 } ≡ fieldsAt c fresh group 0 0
 unfolding fieldsAt
 begun-is c group entry chip option e h o = rw (e, h, o)
 

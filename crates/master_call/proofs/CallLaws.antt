@@ -28,7 +28,7 @@ use Rattle.master.specs.Steps.{fitsLent}
 use Rattle.stage_numbers.specs.MasterStage.{isStage}
 use Rattle.images.specs.declared.master_image.MasterFound.{MasterFound}
 use Rattle.images.specs.declared.master_image.MasterFound.the-variants.{At, Nothing}
-use Rattle.images.specs.Numbers.{isEnding}
+use Rattle.access.specs.Endings.{isEnding}
 use Rattle.images.specs.MasterImage.{masterFields, masterOf, masterIn, isCall}
 use Rattle.images.proofs.MasterImageRanges as ranges
 use Rattle.master_step.specs.declared.here.Here.{Here}
@@ -84,7 +84,7 @@ module _ (b list : List ℕ) (w room a : ℕ) (after : List ℕ) (asked : ℕ) w
       go false = r
 
   -- by the run that the state is in
-  module _ (size : length b ≡ 32) (bytes : Bytes b) (call : isCall (fieldsOf b) ≡ true) (ending : isEnding (fieldsOf b .error) (fieldsOf b .value) ≡ true)
+  module _ (size : length b ≡ 32) (bytes : Bytes b) (call : isCall (fieldsOf b) ≡ true) (ending : isEnding (fieldsOf b .error) (fieldsOf b .value) (fieldsOf b .extra) ≡ true)
       (ok : refusalBy (state .call .kind) (state .call .address) list w room ≡ none) (r : Run)
       (run : runAt (spansBy (state .call .kind) list w room) (state .progress .run) ≡ found-run.At r) where
     abbrev numbers : Bool
@@ -141,12 +141,12 @@ module _ (entry : ℕ) (b list : List ℕ) (w room a : ℕ) (after : List ℕ) (
   -- a block that holds no call of the entry
   pub no-call : isCallOf entry b ≡ false → Refuses b after asked → Stepped (heldIn entry b) list w room a b after asked
   unfolding isCallOf heldIn masterIn
-  no-call e r = go (eqb (fieldsOf b .entry) entry) (isCall (fieldsOf b)) (isEnding (fieldsOf b .error) (fieldsOf b .value)) e refl refl
+  no-call e r = go (eqb (fieldsOf b .entry) entry) (isCall (fieldsOf b)) (isEnding (fieldsOf b .error) (fieldsOf b .value) (fieldsOf b .extra)) e refl refl
     where
       other : (t : Bool) → sameFields (masterFields (masterOf (fieldsOf b))) (fieldsOf b) ≡ t → t ≡ false → Stepped (cond (sameFields (masterFields (masterOf (fieldsOf b))) (fieldsOf b)) (At (masterOf (fieldsOf b))) Nothing) list w room a b after asked
       other t q z = subst (λ (x : Bool). Stepped (cond x (At (masterOf (fieldsOf b))) Nothing) list w room a b after asked) (sym (q ∙ z)) r
 
-      go : (own call ending : Bool) → own && (call && ending) ≡ false → isCall (fieldsOf b) ≡ call → isEnding (fieldsOf b .error) (fieldsOf b .value) ≡ ending
+      go : (own call ending : Bool) → own && (call && ending) ≡ false → isCall (fieldsOf b) ≡ call → isEnding (fieldsOf b .error) (fieldsOf b .value) (fieldsOf b .extra) ≡ ending
           → Stepped (cond own (cond (sameFields (masterFields (masterOf (fieldsOf b))) (fieldsOf b)) (At (masterOf (fieldsOf b))) Nothing) Nothing) list w room a b after asked
       go false call ending e c k = r
       go true false ending e c k = other _ (ranges.image-ranges (fieldsOf b)) (rw c)
@@ -167,7 +167,7 @@ module _ (entry : ℕ) (b list : List ℕ) (w room a : ℕ) (after : List ℕ) (
     unfolding isCallOf
     is-call = first-true (isCall (fieldsOf b)) _ (second-true (eqb (fieldsOf b .entry) entry) _ e)
 
-    pub is-ending : isEnding (fieldsOf b .error) (fieldsOf b .value) ≡ true
+    pub is-ending : isEnding (fieldsOf b .error) (fieldsOf b .value) (fieldsOf b .extra) ≡ true
     unfolding isCallOf
     is-ending = second-true (isCall (fieldsOf b)) _ (second-true (eqb (fieldsOf b .entry) entry) _ e)
 

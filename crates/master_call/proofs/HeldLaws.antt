@@ -1,21 +1,12 @@
--- Tests of numbers that are two words, and of two lengths together.
+-- Tests of two lengths together.
 -- Assumes nothing.
-use Prim.Native.Nat.{ℕ, _+_, _-_, _*_, _≤_, _<_}
+use Prim.Native.Nat.{ℕ, _+_, _-_, _≤_, _<_}
 use mathlib.Core.Path.{_≡_, refl, sym, ap}
 use mathlib.Core.Bool.{Bool, true, false, not, _&&_}
 use native.Mathlib.Omega.{arith}
-use borrow.Author.Tests.{eqb-true, eqb-false, eq-eqb, ne-eqb, leb-true, leb-false, le-leb, lt-leb}
+use borrow.Author.Tests.{leb-true, leb-false, le-leb, lt-leb}
 use lib.Dec.{eqb, leb}
 use Rattle.master_call.specs.CallStep.{fewEnough}
-
--- a number of two words is 0 if both are
-pub long-zero : (x y : ℕ) (c : Bool) → eqb x 0 && (eqb y 0 && c) ≡ eqb (x + y * 65536) 0 && c
-long-zero x y c = go (eqb x 0) (eqb y 0) refl refl
-  where
-    go : (a b : Bool) → eqb x 0 ≡ a → eqb y 0 ≡ b → a && (b && c) ≡ eqb (x + y * 65536) 0 && c
-    go true true p q = rw (eq-eqb (x + y * 65536) 0 (omega (arith, eqb-true x 0 p, eqb-true y 0 q)))
-    go true false p q = rw (ne-eqb (x + y * 65536) 0 (λ z. eqb-false y 0 q (omega (arith, z))))
-    go false b p q = rw (ne-eqb (x + y * 65536) 0 (λ z. eqb-false x 0 p (omega (arith, z))))
 
 -- no more than 65,535 together, where the first is no more
 pub few : (w n : ℕ) → w ≤ 65535 → not (eqb n 0) && leb n (65535 - w) ≡ fewEnough w n

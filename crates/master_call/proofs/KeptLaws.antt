@@ -1,6 +1,6 @@
 -- A byte to keep is stored exactly by a step that is taken: the number of a refusal tells.
 -- Assumes nothing.
-use Prim.Native.Nat.{ℕ, _%_}
+use Prim.Native.Nat.{ℕ}
 use mathlib.Core.Path.{_≡_, refl, sym, ap, subst, _∙_}
 use mathlib.Core.Bool.{Bool, true, false, cond, not, _&&_, true≢false}
 use mathlib.Core.List.{List}
@@ -8,6 +8,8 @@ use native.Mathlib.Omega.{arith}
 use lib.Dec.{eqb}
 use lib.ListN.{set}
 use borrow.Author.Tests.{eqb-true, eqb-false}
+use Rattle.registers.specs.Fields.{DATA}
+use Rattle.registers.specs.Word.{fieldOf}
 use Rattle.access.specs.declared.ending.Error.the-variants.{InvalidState}
 use Rattle.access.specs.declared.need.Need.the-variants as need
 use Rattle.access.specs.Endings.{failed}
@@ -59,11 +61,11 @@ module _ (s : State) (list : List ℕ) (w room a : ℕ) (b after read : List ℕ
           true≢false (sym (both _ _ (sym (ap (λ (f : FoundRun). fitsFound (settingOf (s .call)) f (s .stage) (s .progress)) z) ∙ fit) going) ∙ none-open (settingOf (s .call)) (s .stage) (s .progress))
 
   -- what the bytes read become
-  pub stored-is : cond (isKeep (needOf s) && not (eqb asked n)) (set read (s .progress .place) (a % 256)) read ≡ cond (isOpen s list w room) (kept (needOf s) a read) read
+  pub stored-is : cond (isKeep (needOf s) && not (eqb asked n)) (set read (s .progress .place) (fieldOf DATA a)) read ≡ cond (isOpen s list w room) (kept (needOf s) a read) read
   stored-is = rw (kept-at (settingOf (s .call)) (s .progress) (s .stage) a read) (go (isOpen s list w room) (isKeep (needOf s)) (eqb asked n) refl refl refl)
     where
       go : (v k u : Bool) → isOpen s list w room ≡ v → isKeep (needOf s) ≡ k → eqb asked n ≡ u
-          → cond (k && not u) (set read (s .progress .place) (a % 256)) read ≡ cond v (cond k (set read (s .progress .place) (a % 256)) read) read
+          → cond (k && not u) (set read (s .progress .place) (fieldOf DATA a)) read ≡ cond v (cond k (set read (s .progress .place) (fieldOf DATA a)) read) read
       go true false u e k q = refl
       go false false u e k q = refl
       go true true true e k q = absurd (on e k (eqb-true asked n q))

@@ -18,7 +18,7 @@ use Rattle.operations.specs.Runs.{span}
 use Rattle.master_lent.proofs.LookLaws.{first-run, only-run, second-run, no-second, no-third}
 use Rattle.master.specs.Rust.{send-start, send-stop, send-nack}
 use Rattle.master.specs.Steps.{fitsLent}
-use Rattle.stage_numbers.proofs.Bytes.{bytes}
+use Rattle.access.proofs.Bytes.{bytes}
 use Rattle.images.specs.MasterImage.{frameOptionsOf, masterOf}
 use Rattle.master_step.specs.declared.here.Here.{Here}
 use Rattle.master_step.specs.Held.{Refuses, StepIn}

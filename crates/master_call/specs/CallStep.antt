@@ -7,7 +7,7 @@ use Rattle.access.specs.Machine.{isEnd}
 use Rattle.block.specs.Bytes32.{fieldsOf, Bytes}
 use Rattle.images.specs.declared.master_image.MasterFound.{MasterFound}
 use Rattle.images.specs.declared.master_image.MasterFound.the-variants.{At, Nothing}
-use Rattle.images.specs.Numbers.{isEnding}
+use Rattle.access.specs.Endings.{isEnding}
 use Rattle.images.specs.MasterImage.{masterIn, isCall}
 use Rattle.master.specs.declared.state.State.{State}
 use Rattle.master.specs.Machine.{advanceAt, runOf}
@@ -18,7 +18,7 @@ use Rattle.master_step.specs.Held.{Steps, Refuses}
 
 -- the numbers beside those of the stage are those of a call of this entry
 unfoldable pub isCallOf : ℕ → List ℕ → Bool
-isCallOf entry b = eqb (fieldsOf b .entry) entry && (isCall (fieldsOf b) && isEnding (fieldsOf b .error) (fieldsOf b .value))
+isCallOf entry b = eqb (fieldsOf b .entry) entry && (isCall (fieldsOf b) && isEnding (fieldsOf b .error) (fieldsOf b .value) (fieldsOf b .extra))
 
 -- the state of an entry's call that a block of 32 bytes holds
 unfoldable pub heldIn : ℕ → List ℕ → MasterFound

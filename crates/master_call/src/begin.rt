@@ -54,7 +54,7 @@ fn begun_fields(call: Call, group: u8) -> Fields
         count: 0,
         second: 0,
         mhz: 0,
-        unused: 0,
+        extra: 0,
     }
 }
 

@@ -6,8 +6,9 @@ ghost use Rattle.block.specs.Bytes32.{blockSize};
 ghost use Rattle.master_call.specs.CallStep.{CallSteps};
 use crate::held;
 use crate::here;
+use block::at;
+use block::bytes32;
 use images::numbers;
-use master_step::put;
 use master_step::step;
 
 // A write of so many bytes.
@@ -15,12 +16,12 @@ pub fn write_step(block: &mut [u8], written: usize, answer: u16) -> u64
     requires { ⌜ length (now block) ≡ blockSize ⌝ }
     ensures { λ r. ⌜ CallSteps 4 [] written 0 answer (now (block .entry)) (now (block .exit)) r ⌝ }
 {
-    let address = put::word_at(block, put::ADDRESS);
-    let run = put::word_at(block, put::RUN);
+    let address = bytes32::word_at(block, at::ADDRESS);
+    let run = bytes32::word_at(block, at::RUN);
     if held::is_call_of(block, numbers::WRITE)
         & ((address <= 127) & ((written <= 65535) & (run == 0)))
     {
-        let here = here::here_by(false, written as u16, 0, false, block[2]);
+        let here = here::here_by(false, written as u16, 0, false, block[at::OPTION]);
         return step::step_in(block, here, answer);
     }
     asked::refused()
@@ -31,12 +32,12 @@ pub fn read_step(block: &mut [u8], room: usize, answer: u16) -> u64
     requires { ⌜ length (now block) ≡ blockSize ⌝ }
     ensures { λ r. ⌜ CallSteps 5 [] 0 room answer (now (block .entry)) (now (block .exit)) r ⌝ }
 {
-    let address = put::word_at(block, put::ADDRESS);
-    let run = put::word_at(block, put::RUN);
+    let address = bytes32::word_at(block, at::ADDRESS);
+    let run = bytes32::word_at(block, at::RUN);
     if held::is_call_of(block, numbers::READ)
         & ((address <= 127) & ((room != 0) & ((room <= 65535) & (run == 0))))
     {
-        let here = here::here_by(true, room as u16, 0, false, block[2]);
+        let here = here::here_by(true, room as u16, 0, false, block[at::OPTION]);
         return step::step_in(block, here, answer);
     }
     asked::refused()

@@ -5,9 +5,10 @@ ghost use Rattle.block.specs.Bytes32.{blockSize};
 ghost use Rattle.master_call.specs.CallStep.{CallSteps};
 use crate::held;
 use crate::here;
+use block::at;
+use block::bytes32;
 use images::numbers;
 use list_run::find;
-use master_step::put;
 use master_step::step;
 
 pub fn transaction_step(
@@ -20,8 +21,8 @@ pub fn transaction_step(
     requires { ⌜ length (now block) ≡ blockSize ⌝ }
     ensures { λ r. ⌜ CallSteps 2 (now (list .entry)) written room answer (now (block .entry)) (now (block .exit)) r ⌝ }
 {
-    let address = put::word_at(block, put::ADDRESS);
-    let run = put::word_at(block, put::RUN);
+    let address = bytes32::word_at(block, at::ADDRESS);
+    let run = bytes32::word_at(block, at::RUN);
     if held::is_call_of(block, numbers::TRANSACTION) & (address <= 127) {
         let found = find::find(list, written, room, run);
         if !found.found {

@@ -6,8 +6,9 @@ ghost use Rattle.block.specs.Bytes32.{blockSize};
 ghost use Rattle.master_call.specs.CallStep.{CallSteps, fewEnough};
 use crate::held;
 use crate::here;
+use block::at;
+use block::bytes32;
 use images::numbers;
-use master_step::put;
 use master_step::step;
 
 // Something to read, and no more than 65,535 bytes together.
@@ -24,8 +25,8 @@ pub fn write_read_step(block: &mut [u8], written: usize, room: usize, answer: u1
     requires { ⌜ length (now block) ≡ blockSize ⌝ }
     ensures { λ r. ⌜ CallSteps 3 [] written room answer (now (block .entry)) (now (block .exit)) r ⌝ }
 {
-    let address = put::word_at(block, put::ADDRESS);
-    let run = put::word_at(block, put::RUN);
+    let address = bytes32::word_at(block, at::ADDRESS);
+    let run = bytes32::word_at(block, at::RUN);
     if held::is_call_of(block, numbers::WRITE_READ)
         & ((address <= 127) & (few_enough(written, room) & (run < 2)))
     {

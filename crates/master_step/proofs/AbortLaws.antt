@@ -17,7 +17,7 @@ use Rattle.master.specs.Machine.{abortTransfer}
 use Rattle.master.specs.Fits.{counts, fitsAt, fitsAbort}
 use Rattle.master.specs.Calls.{settingOf}
 use Rattle.stage_numbers.specs.MasterStage.{isStage, stageOf, abortStageOf}
-use Rattle.stage_numbers.proofs.Compared.{turned, joined}
+use Rattle.access.proofs.Compared.{turned, joined}
 use Rattle.stage_numbers.proofs.MasterStageRanges.{abort-stage-range}
 use Rattle.master_step.specs.Held.{blockAt, Moves, Failing}
 

@@ -14,7 +14,7 @@ use Rattle.master.specs.declared.state.Progress.{Progress}
 use Rattle.master.specs.Fits.{fitsAt}
 use Rattle.master.specs.Calls.{settingOf}
 use Rattle.stage_numbers.specs.MasterStage.{isStage, stageOf}
-use Rattle.stage_numbers.proofs.Compared.{turned}
+use Rattle.access.proofs.Compared.{turned}
 use Rattle.master_step.specs.declared.here.Here.{Here}
 use Rattle.master_step.specs.Going.{fitsBeginIn}
 use Rattle.master_step.specs.Held.{Unbegun}

@@ -1,12 +1,14 @@
 -- Where a byte is to be kept, and which stages have not ended.
 -- Assumes nothing.
-use Prim.Native.Nat.{ℕ, _%_}
+use Prim.Native.Nat.{ℕ}
 use mathlib.Core.Path.{_≡_, refl, ap, _∙_}
 use mathlib.Core.Bool.{Bool, true, false, cond, not, _&&_}
 use mathlib.Core.List.{List}
 use lib.Dec.{eqb, ltb}
 use lib.ListN.{set}
 use borrow.Author.Tests.{eqb-true}
+use Rattle.registers.specs.Word.{fieldOf}
+use Rattle.registers.specs.Fields.{DATA}
 use Rattle.access.specs.Machine.{kept, isEnd}
 use Rattle.access.proofs.Choice.{chosen, first-true}
 use Rattle.master.specs.declared.call.Setting.{Setting}
@@ -89,7 +91,7 @@ module _ (g : Setting) (d : Progress) where
       chosen (λ (st : Stage). false ≡ isKeep (owedAt g st d)) (eqb n 0) (λ _. refl) (λ _. chosen (λ (st : Stage). false ≡ isKeep (owedAt g st d)) (eqb n 1) (λ _. none-fall (fallStageOf p)) (λ _. chosen (λ (st : Stage). false ≡ isKeep (owedAt g st d)) (eqb n 2) (λ _. none-launch (launchStageOf p)) (λ _. chosen (λ (st : Stage). false ≡ isKeep (owedAt g st d)) (eqb n 3) (λ _. none-wait (waitStageOf p)) (λ _. chosen (λ (st : Stage). false ≡ isKeep (owedAt g st d)) (eqb n 4) (λ _. none-address (addressStageOf p)) (λ _. chosen (λ (st : Stage). false ≡ isKeep (owedAt g st d)) (eqb n 5) (λ _. refl) (λ _. chosen (λ (st : Stage). false ≡ isKeep (owedAt g st d)) (eqb n 6) (λ k. absurd (n6 (eqb-true n 6 k))) (λ _. chosen (λ (st : Stage). false ≡ isKeep (owedAt g st d)) (eqb n 7) (λ k. absurd (n7 (eqb-true n 7 k))) (λ _. chosen (λ (st : Stage). false ≡ isKeep (owedAt g st d)) (eqb n 8) (λ _. none-half (halfOf p)) (λ _. chosen (λ (st : Stage). false ≡ isKeep (owedAt g st d)) (eqb n 9) (λ _. none-abort (abortStageOf p)) (λ _. refl))))))))))
 
   -- an answer is kept at the block's place, or not at all
-  pub kept-at : (st : Stage) (a : ℕ) (bytes : List ℕ) → kept (owedAt g st d) a bytes ≡ cond (isKeep (owedAt g st d)) (set bytes (d .place) (a % 256)) bytes
+  pub kept-at : (st : Stage) (a : ℕ) (bytes : List ℕ) → kept (owedAt g st d) a bytes ≡ cond (isKeep (owedAt g st d)) (set bytes (d .place) (fieldOf DATA a)) bytes
   kept-at stage.Begin a bytes = refl
   kept-at (stage.WaitStop f fall.Control) a bytes = refl
   kept-at (stage.WaitStop f fall.Clock) a bytes = refl

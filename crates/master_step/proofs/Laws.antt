@@ -9,8 +9,12 @@ use lib.Dec.{eqb, leb}
 use lib.ListN.{getD}
 use Rattle.access.specs.declared.ending.Failure.{Failure}
 use Rattle.access.specs.declared.need.Need.{Need}
-use Rattle.access.specs.Endings.{done, endingError, endingValue}
+use Rattle.access.specs.declared.ending.Ending.{Ending}
+use Rattle.access.specs.Endings.{done}
 use Rattle.block.specs.Bytes32.{bytesOf, wordAt}
+use Rattle.block.specs.declared.fields.Fields.{Fields}
+use Rattle.images.specs.EndImage.{KeepsEnd, withEnd}
+use Rattle.images.proofs.EndImageLaws.{keeps-end}
 use Rattle.images.specs.Numbers.{flagNumber, chipOf}
 use Rattle.images.specs.MasterImage.{masterFields}
 use Rattle.images.proofs.NumberLaws.{chip-back}
@@ -20,7 +24,7 @@ use Rattle.master.specs.declared.stage.Flag.{Flag}
 use Rattle.master.specs.declared.stage.Stage.{Stage}
 use Rattle.master.specs.declared.state.Progress.{Progress}
 use Rattle.master.specs.declared.state.Move.{Move}
-use Rattle.master.specs.Machine.{to, owedAt, stopsHere, tests, fails}
+use Rattle.master.specs.Machine.{to, owedAt, stopsHere, tests, fails, endsWith}
 use Rattle.master.specs.Fits.{counts, runs}
 use Rattle.master.specs.Calls.{settingOf}
 use Rattle.master.specs.Steps.{stateAt}
@@ -60,10 +64,6 @@ pub left-at : (c : Call) (d : Progress) (g w p : ℕ) → wordAt (blockAt c d g 
 unfolding blockAt bytesOf fieldsAt
 left-at c d g w p = word-back (d .left)
 
-pub value-at : (c : Call) (d : Progress) (g w p : ℕ) → wordAt (blockAt c d g w p) 22 ≡ endingValue (d .ending)
-unfolding blockAt bytesOf fieldsAt
-value-at c d g w p = word-back (endingValue (d .ending))
-
 pub flag-at : (c : Call) (d : Progress) (g w p : ℕ) → getD (blockAt c d g w p) 6 0 ≡ flagNumber (d .reading)
 unfolding blockAt bytesOf fieldsAt
 flag-at c d g w p = refl
@@ -88,9 +88,14 @@ pub rise-at : (c : Call) (d : Progress) (g w p : ℕ) → wordAt (blockAt c d g 
 unfolding blockAt bytesOf fieldsAt
 rise-at c d g w p = word-back (d .rise)
 
-pub error-at : (c : Call) (d : Progress) (g w p : ℕ) → getD (blockAt c d g w p) 7 0 ≡ endingError (d .ending)
-unfolding blockAt bytesOf fieldsAt
-error-at c d g w p = refl
+-- how the call is to end
+pub end-at : (c : Call) (d : Progress) (g w p : ℕ) {b : List ℕ} → b ≡ blockAt c d g w p → KeepsEnd b (d .ending)
+unfolding blockAt fieldsAt
+end-at c d g w p e = subst (λ (x : List ℕ). KeepsEnd x (d .ending)) (sym e) (keeps-end (fieldsAt c d g w p) (d .ending) refl refl refl)
+
+pub ends-at : (c : Call) (d : Progress) (g w p : ℕ) (x : Ending) {b after : List ℕ} → b ≡ blockAt c d g w p → ((f : Fields) → b ≡ bytesOf f → after ≡ bytesOf (withEnd x f)) → after ≡ blockAt c (endsWith x d) g w p
+unfolding blockAt fieldsAt
+ends-at c d g w p x e put = put (fieldsAt c d g w p) e
 
 pub no-flag-at : (c : Call) (d : Progress) (g w p : ℕ) → eqb (getD (blockAt c d g w p) 6 0) 0 ≡ not (d .reading)
 no-flag-at c d g w p = ap (λ (n : ℕ). eqb n 0) (flag-at c d g w p) ∙ go (d .reading)

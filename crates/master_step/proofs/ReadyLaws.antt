@@ -7,10 +7,8 @@ use mathlib.Core.Bool.{Bool, true, false, Bool·beq, _&&_, _||_, true≢false}
 use mathlib.Core.List.{List}
 use lib.Dec.{eqb, leb, ltb}
 use borrow.Author.Tests.{eqb-true, ne-eqb, le-ltb, lt-ltb}
-use Rattle.access.proofs.NumberLaws.{error-above}
-use Rattle.access.specs.declared.ending.Ending.{Ending}
-use Rattle.access.specs.declared.ending.Ending.the-variants.{Done, Failed}
-use Rattle.access.specs.Endings.{errorNumber, done, returned, isDone, hasFailed, endingError, endingValue}
+use Rattle.access.proofs.EndingLaws.{ended-done}
+use Rattle.access.specs.Endings.{done, isDone, hasFailed}
 use Rattle.access.proofs.Choice.{both-true, first-true, second-true, either-true}
 use Rattle.images.specs.Numbers.{flagNumber}
 use Rattle.operations.specs.declared.search.Run.{Run}
@@ -34,21 +32,7 @@ same-flag true false = refl
 same-flag false true = refl
 same-flag false false = refl
 
-pub done-is : (e : Ending) → eqb (endingError e) 0 && eqb (endingValue e) 0 ≡ isDone e
-done-is (Done o) = refl
-done-is (Failed f) =
-    let h = error-above (f .error) in
-    ap (λ (b : Bool). b && true) (ne-eqb (errorNumber (f .error)) 0 (λ e. omega (arith, h, e)))
-
-pub failed-is : (e : Ending) → ltb 0 (endingError e) && leb (endingError e) 6 ≡ hasFailed e
-failed-is (Done o) = refl
-failed-is (Failed f) = ap (λ (b : Bool). b && leb (errorNumber (f .error)) 6) (lt-ltb 0 (errorNumber (f .error)) (error-above (f .error)))
-
 -- ---- what they give
-
-pub ended-done : (e : Ending) → isDone e ≡ true → e ≡ done
-ended-done (Done o) h = ap returned (eqb-true (o .value) 0 h)
-ended-done (Failed f) h = absurd (true≢false (sym h))
 
 only-second : (a b : Bool) → a ≡ false → a || b ≡ true → b ≡ true
 only-second true b e h = absurd (true≢false e)

@@ -25,7 +25,7 @@ use Rattle.master.specs.Machine.{owedAt, advanceAt, byteDone, stopsHere, finish
 use Rattle.master.specs.Fits.{counts, runs, fitsAt, receiving, lastOnes}
 use Rattle.master.specs.Calls.{settingOf}
 use Rattle.asked.specs.Asked.{Asks, isKeep}
-use Rattle.master_step.proofs.ReadyLaws.{ended-done}
+use Rattle.access.proofs.EndingLaws.{ended-done}
 
 module _ (c : Call) (r : Run) where
   -- what is asked for there is not a refusal

@@ -19,7 +19,7 @@ use Rattle.master.specs.declared.state.Progress.{Progress}
 use Rattle.master.specs.Fits.{counts, fitsAt, fitsRead, fitsStop, starting, sending, receiving}
 use Rattle.master.specs.Calls.{settingOf}
 use Rattle.stage_numbers.specs.MasterStage.{isStage, stageOf, launchStageOf, addressStageOf, readStageOf, stopForNumber, stopForOf}
-use Rattle.stage_numbers.proofs.Compared.{turned, joined}
+use Rattle.access.proofs.Compared.{turned, joined}
 use Rattle.stage_numbers.proofs.MasterStageRanges.{launch-stage-range, address-stage-range, recv-stage-range, read-stage-range, stop-for-range, half-range}
 use Rattle.master_step.specs.declared.here.Here.{Here}
 use Rattle.master_step.specs.Going.{hereOf, startingIn, sendingIn, receivingIn, fitsReadIn, fitsStopIn}

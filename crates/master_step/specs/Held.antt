@@ -9,7 +9,7 @@ use lib.ListN.{length, getD}
 use Rattle.access.specs.declared.ending.Error.the-variants.{InvalidState}
 use Rattle.access.specs.declared.need.Need.the-variants as need
 use Rattle.registers.specs.declared.chip.Chip.{Chip}
-use Rattle.access.specs.Endings.{done, failed, isDone, hasFailed, endingError, endingValue}
+use Rattle.access.specs.Endings.{done, failed, isDone, hasFailed, endingError, endingValue, endingExtra}
 use Rattle.block.specs.declared.fields.Fields.{Fields}
 use Rattle.block.specs.Bytes32.{bytesOf, blockSize}
 use Rattle.images.specs.Numbers.{flagNumber, chipNumber}
@@ -33,7 +33,7 @@ use Rattle.master_step.specs.Going.{hereIn, hereOf}
 
 -- what a block says of the call c with the progress d, where these are the numbers of the stage
 unfoldable pub fieldsAt : Call → Progress → ℕ → ℕ → ℕ → Fields
-fieldsAt c d group what phase = record { entry = kindEntry (c .kind); chip = chipNumber (c .chip); option = kindOption (c .kind); stage = group; what = what; phase = phase; marks = flagNumber (d .reading); error = endingError (d .ending); address = c .address; run = d .run; left = d .left; place = d .place; word = d .word; divider = d .divider; rise = d .rise; value = endingValue (d .ending); count = 0; second = 0; mhz = 0; unused = 0 }
+fieldsAt c d group what phase = record { entry = kindEntry (c .kind); chip = chipNumber (c .chip); option = kindOption (c .kind); stage = group; what = what; phase = phase; marks = flagNumber (d .reading); error = endingError (d .ending); address = c .address; run = d .run; left = d .left; place = d .place; word = d .word; divider = d .divider; rise = d .rise; value = endingValue (d .ending); count = 0; second = 0; mhz = 0; extra = endingExtra (d .ending) }
 
 -- its bytes
 unfoldable pub blockAt : Call → Progress → ℕ → ℕ → ℕ → List ℕ

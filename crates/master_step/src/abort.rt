@@ -14,6 +14,8 @@ ghost use Rattle.master_step.specs.Held.{Aborts, Aborting};
 use crate::go;
 use crate::put;
 use crate::stage;
+use block::at;
+use block::bytes32;
 use images::numbers;
 use registers::Chip;
 use registers::Register;
@@ -48,9 +50,9 @@ fn ends(block: &mut [u8]) -> u64
     requires { ⌜ length (now block) ≡ blockSize ⌝ }
     ensures { λ r. ⌜ Aborts (now (block .entry)) (now (block .exit)) r (λ (_ : Chip) (d : Progress). to Ended d) ⌝ }
 {
-    let error = block[put::ERROR];
+    let end = asked::ended(block);
     put::to(block, stage::ENDED, 0, 0);
-    asked::failed(error)
+    end
 }
 
 // finish_transfer(), and then `if control.start() || control.stop()` a reset that puts FREQ, CKCFGR and RTR back,
@@ -108,19 +110,19 @@ fn abort_phase(block: &mut [u8], chip: Chip, phase: u8, answer: u16) -> u64
             asked::write(Register::Ctlr1, word::clear_bit(0, bits::SWRST))
         }
         stage::RELEASE => {
-            let frequency = only_frequency(put::word_at(block, put::WORD));
+            let frequency = only_frequency(bytes32::word_at(block, at::WORD));
             put::phase(block, stage::PUT_FREQUENCY);
             asked::write(Register::Ctlr2, frequency)
         }
         // ctlr2.write(set_freq(frequency)), ckcfgr.write_value(divider), rtr.write_value(rise), ctlr1.write(set_pe(true))
         stage::PUT_FREQUENCY => {
-            let divider = put::word_at(block, put::DIVIDER);
+            let divider = bytes32::word_at(block, at::DIVIDER);
             put::phase(block, stage::PUT_DIVIDER);
             asked::write(Register::Ckcfgr, divider)
         }
         stage::PUT_DIVIDER => {
             if chip.i2c_v3 {
-                let rise = put::word_at(block, put::RISE);
+                let rise = bytes32::word_at(block, at::RISE);
                 put::phase(block, stage::PUT_RISE);
                 return asked::write(Register::Rtr, rise);
             }
@@ -158,7 +160,7 @@ pub fn abort_transfer(block: &mut [u8], what: u8, phase: u8, answer: u16) -> u64
     requires { ⌜ length (now block) ≡ blockSize ⌝ }
     ensures { λ r. ⌜ Aborting what phase answer (now (block .entry)) (now (block .exit)) r ⌝ }
 {
-    let chip = numbers::chip_of(block[put::CHIP]);
+    let chip = numbers::chip_of(block[at::CHIP]);
     if !fits_abort(chip, what, phase) {
         return asked::refused();
     }

@@ -15,6 +15,8 @@ use crate::put;
 use crate::stage;
 use access::Error;
 use access::ending;
+use block::at;
+use block::bytes32;
 use registers::Register;
 use registers::addresses;
 use registers::bits;
@@ -68,7 +70,7 @@ fn address_at(block: &mut [u8], here: Here, left: u16, phase: u8, answer: u16) -
             if !word::bit(answer, bits::MSL) {
                 return go::fails(block, ending::failure_of(Error::Arbitration));
             }
-            let address = put::word_at(block, put::ADDRESS);
+            let address = bytes32::word_at(block, at::ADDRESS);
             put::phase(block, stage::ADDRESS_WORD);
             asked::write(
                 Register::Datar,

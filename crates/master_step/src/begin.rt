@@ -8,6 +8,8 @@ use crate::here::Here;
 use crate::put;
 use crate::stage;
 use crate::start;
+use block::at;
+use block::bytes32;
 use registers::Register;
 use registers::bits;
 use registers::word;
@@ -19,9 +21,9 @@ fn fits_begin(block: &[u8], here: Here, left: u16, what: u8, phase: u8) -> bool
 {
     (what == 0)
         & ((phase == 0)
-            & ((block[put::MARKS] == 0)
+            & ((block[at::MARKS] == 0)
                 & ((left == 0)
-                    & ((put::word_at(block, put::PLACE) == 0) & (here.reading | here.start)))))
+                    & ((bytes32::word_at(block, at::PLACE) == 0) & (here.reading | here.start)))))
 }
 
 // The run begins, by the first answer: ctlr1.modify(set_pos(..)) in a read, and in a write the first word of wait_stop_finished.

@@ -13,8 +13,11 @@ ghost use Rattle.access.specs.declared.need.Need.the-variants as need;
 use crate::here::Here;
 use crate::put;
 use crate::stage;
+use access::Ending;
 use access::Failure;
-use access::ending;
+use block::at;
+use block::bytes32;
+use images::end_image;
 use registers::Register;
 
 // An error: the abort begins. (The Rust's `OnDrop::new(Self::abort_transfer)`.)
@@ -22,8 +25,7 @@ pub fn fails(block: &mut [u8], failure: Failure) -> u64
     requires { ⌜ length (now block) ≡ blockSize ⌝ }
     ensures { λ r. ⌜ ((c : Call) (d : Progress) (g w p : ℕ) → d .ending ≡ done → now (block .entry) ≡ blockAt c d g w p → Moves c (fails failure d) (now (block .exit)) r) ⌝ }
 {
-    let error = failure.error;
-    block[put::ERROR] = ending::error_number(error);
+    end_image::put(block, Ending::Failed(failure));
     put::to(block, stage::ABORT, 0, 0);
     asked::read(Register::Ctlr2)
 }
@@ -45,7 +47,7 @@ pub fn keeps(block: &mut [u8], group: u8, phase: u8) -> u64
     ensures { λ _. ⌜ Puts (now (block .entry)) (now (block .exit)) (λ (d : Progress). d) (λ (_ : ℕ). group) (λ (_ : ℕ). 0) (λ (_ : ℕ). phase) ⌝ }
     ensures { λ r. ⌜ ((c : Call) (d : Progress) (g w p : ℕ) → now (block .entry) ≡ blockAt c d g w p → Asks r (need.Keep (d .place))) ⌝ }
 {
-    let place = put::word_at(block, put::PLACE);
+    let place = bytes32::word_at(block, at::PLACE);
     put::to(block, group, 0, phase);
     asked::keep(place)
 }

@@ -11,58 +11,18 @@ ghost use Rattle.operations.specs.declared.search.Run.{Run};
 ghost use Rattle.master_step.specs.Going.{hereIn};
 ghost use Rattle.master_step.specs.Held.{Puts, blockAt, kept};
 use crate::here::Here;
+use block::at;
+use block::bytes32;
 use images::numbers;
-
-// Where the numbers stand in the block (docs/STATE.md).
-pub const CHIP: usize = 1;
-
-pub const GROUP: usize = 3;
-
-pub const WHAT: usize = 4;
-
-pub const PHASE: usize = 5;
-
-pub const MARKS: usize = 6;
-
-pub const ERROR: usize = 7;
-
-pub const ADDRESS: usize = 8;
-
-pub const RUN: usize = 10;
-
-pub const LEFT: usize = 12;
-
-pub const PLACE: usize = 14;
-
-pub const WORD: usize = 16;
-
-pub const DIVIDER: usize = 18;
-
-pub const RISE: usize = 20;
-
-pub const VALUE: usize = 22;
-
-fn word(low: u8, high: u8) -> u16
-    ensures { λ r. ⌜ r ≡ low + high * 256 ⌝ }
-{
-    low as u16 + high as u16 * 256
-}
-
-pub fn word_at(block: &[u8], at: usize) -> u16
-    requires { ⌜ at + 2 ≤ length (now block) ⌝ }
-    ensures { λ r. ⌜ r ≡ wordAt (now (block .entry)) at ⌝ }
-{
-    word(block[at], block[at + 1])
-}
 
 // On to another stage.
 pub fn to(block: &mut [u8], group: u8, what: u8, phase: u8)
     requires { ⌜ length (now block) ≡ blockSize ⌝ }
     ensures { λ _. ⌜ Puts (now (block .entry)) (now (block .exit)) (λ (d : Progress). d) (λ (_ : ℕ). group) (λ (_ : ℕ). what) (λ (_ : ℕ). phase) ⌝ }
 {
-    block[GROUP] = group;
-    block[WHAT] = what;
-    block[PHASE] = phase;
+    block[at::GROUP] = group;
+    block[at::WHAT] = what;
+    block[at::PHASE] = phase;
 }
 
 // On to another phase of the stage.
@@ -70,7 +30,7 @@ pub fn phase(block: &mut [u8], phase: u8)
     requires { ⌜ length (now block) ≡ blockSize ⌝ }
     ensures { λ _. ⌜ Puts (now (block .entry)) (now (block .exit)) (λ (d : Progress). d) kept kept (λ (_ : ℕ). phase) ⌝ }
 {
-    block[PHASE] = phase;
+    block[at::PHASE] = phase;
 }
 
 // The word of the last read.
@@ -78,8 +38,8 @@ pub fn saves(block: &mut [u8], word: u16)
     requires { ⌜ length (now block) ≡ blockSize ⌝ }
     ensures { λ _. ⌜ Puts (now (block .entry)) (now (block .exit)) (saves word) kept kept kept ⌝ }
 {
-    block[WORD] = (word % 256) as u8;
-    block[WORD + 1] = (word / 256) as u8;
+    block[at::WORD] = (word % 256) as u8;
+    block[at::WORD + 1] = (word / 256) as u8;
 }
 
 // The words that an abort reads before its reset.
@@ -87,16 +47,16 @@ pub fn saves_divider(block: &mut [u8], word: u16)
     requires { ⌜ length (now block) ≡ blockSize ⌝ }
     ensures { λ _. ⌜ Puts (now (block .entry)) (now (block .exit)) (savesDivider word) kept kept kept ⌝ }
 {
-    block[DIVIDER] = (word % 256) as u8;
-    block[DIVIDER + 1] = (word / 256) as u8;
+    block[at::DIVIDER] = (word % 256) as u8;
+    block[at::DIVIDER + 1] = (word / 256) as u8;
 }
 
 pub fn saves_rise(block: &mut [u8], word: u16)
     requires { ⌜ length (now block) ≡ blockSize ⌝ }
     ensures { λ _. ⌜ Puts (now (block .entry)) (now (block .exit)) (savesRise word) kept kept kept ⌝ }
 {
-    block[RISE] = (word % 256) as u8;
-    block[RISE + 1] = (word / 256) as u8;
+    block[at::RISE] = (word % 256) as u8;
+    block[at::RISE + 1] = (word / 256) as u8;
 }
 
 fn next16(n: u16) -> u16
@@ -117,11 +77,11 @@ pub fn byte_done(block: &mut [u8], left: u16)
     ensures { λ _. ⌜ length (now (block .exit)) ≡ blockSize ⌝ }
     ensures { λ _. ⌜ ((c : Call) (d : Progress) (g w p : ℕ) → left ≡ byteDone d .left → now (block .entry) ≡ blockAt c d g w p → now (block .exit) ≡ blockAt c (byteDone d) g w p) ⌝ }
 {
-    let place = next16(word_at(block, PLACE));
-    block[LEFT] = (left % 256) as u8;
-    block[LEFT + 1] = (left / 256) as u8;
-    block[PLACE] = (place % 256) as u8;
-    block[PLACE + 1] = (place / 256) as u8;
+    let place = next16(bytes32::word_at(block, at::PLACE));
+    block[at::LEFT] = (left % 256) as u8;
+    block[at::LEFT + 1] = (left / 256) as u8;
+    block[at::PLACE] = (place % 256) as u8;
+    block[at::PLACE + 1] = (place / 256) as u8;
 }
 
 // The run begins.
@@ -130,11 +90,11 @@ pub fn begun(block: &mut [u8], here: Here)
     ensures { λ _. ⌜ length (now (block .exit)) ≡ blockSize ⌝ }
     ensures { λ _. ⌜ ((c : Call) (r : Run) (d : Progress) (g w p : ℕ) → here ≡ hereIn c r (isRead (r .direction)) → now (block .entry) ≡ blockAt c d g w p → now (block .exit) ≡ blockAt c (begun r d) g w p) ⌝ }
 {
-    block[MARKS] = numbers::flag_number(here.reading);
-    block[LEFT] = (here.length % 256) as u8;
-    block[LEFT + 1] = (here.length / 256) as u8;
-    block[PLACE] = (here.before % 256) as u8;
-    block[PLACE + 1] = (here.before / 256) as u8;
+    block[at::MARKS] = numbers::flag_number(here.reading);
+    block[at::LEFT] = (here.length % 256) as u8;
+    block[at::LEFT + 1] = (here.length / 256) as u8;
+    block[at::PLACE] = (here.before % 256) as u8;
+    block[at::PLACE + 1] = (here.before / 256) as u8;
 }
 
 // On to the next run.
@@ -142,12 +102,12 @@ pub fn next_run(block: &mut [u8])
     requires { ⌜ length (now block) ≡ blockSize ⌝ }
     ensures { λ _. ⌜ Puts (now (block .entry)) (now (block .exit)) nextRun kept kept kept ⌝ }
 {
-    let run = next16(word_at(block, RUN));
-    block[MARKS] = 0;
-    block[RUN] = (run % 256) as u8;
-    block[RUN + 1] = (run / 256) as u8;
-    block[LEFT] = 0;
-    block[LEFT + 1] = 0;
-    block[PLACE] = 0;
-    block[PLACE + 1] = 0;
+    let run = next16(bytes32::word_at(block, at::RUN));
+    block[at::MARKS] = 0;
+    block[at::RUN] = (run % 256) as u8;
+    block[at::RUN + 1] = (run / 256) as u8;
+    block[at::LEFT] = 0;
+    block[at::LEFT + 1] = 0;
+    block[at::PLACE] = 0;
+    block[at::PLACE + 1] = 0;
 }

@@ -2,7 +2,6 @@
 ghost use mathlib.Core.Path.{_≡_};
 ghost use Prim.Native.Nat.{ℕ};
 ghost use lib.ListN.{length};
-ghost use Rattle.access.specs.Endings.{isDone, hasFailed};
 ghost use Rattle.operations.specs.declared.search.Run.{Run};
 ghost use Rattle.operations.specs.Operations.{isRead};
 ghost use Rattle.block.specs.Bytes32.{blockSize};
@@ -12,8 +11,10 @@ ghost use Rattle.master.specs.Fits.{counts};
 ghost use Rattle.master_step.specs.Going.{hereIn};
 ghost use Rattle.master_step.specs.Held.{blockAt, readyAt};
 use crate::here::Here;
-use crate::put;
 use crate::stage;
+use block::at;
+use block::bytes32;
+use images::end_image;
 use images::numbers;
 
 // The direction is the run's, and so are the bytes that are left.
@@ -21,26 +22,10 @@ fn counts(block: &[u8], here: Here, left: u16) -> bool
     requires { ⌜ length (now block) ≡ blockSize ⌝ }
     ensures { λ t. ⌜ ((c : Call) (r : Run) (d : Progress) (g w p : ℕ) → now (block .entry) ≡ blockAt c d g w p → here ≡ hereIn c r (isRead (r .direction)) → left ≡ d .left → t ≡ counts r d) ⌝ }
 {
-    let place = put::word_at(block, put::PLACE);
-    (block[put::MARKS] == numbers::flag_number(here.reading))
+    let place = bytes32::word_at(block, at::PLACE);
+    (block[at::MARKS] == numbers::flag_number(here.reading))
         & ((left <= here.length)
             & (place as u32 + left as u32 == here.before as u32 + here.length as u32))
-}
-
-// No error was met.
-fn is_done(block: &[u8]) -> bool
-    requires { ⌜ length (now block) ≡ blockSize ⌝ }
-    ensures { λ t. ⌜ ((c : Call) (d : Progress) (g w p : ℕ) → now (block .entry) ≡ blockAt c d g w p → t ≡ isDone (d .ending)) ⌝ }
-{
-    (block[put::ERROR] == 0) & (put::word_at(block, put::VALUE) == 0)
-}
-
-// An error was met, 1 to 6.
-fn has_failed(block: &[u8]) -> bool
-    requires { ⌜ length (now block) ≡ blockSize ⌝ }
-    ensures { λ t. ⌜ ((c : Call) (d : Progress) (g w p : ℕ) → now (block .entry) ≡ blockAt c d g w p → t ≡ hasFailed (d .ending)) ⌝ }
-{
-    (0 < block[put::ERROR]) & (block[put::ERROR] <= 6)
 }
 
 // Before its first access a run has no counts in the block; an error was met in an abort, and nowhere before it.
@@ -49,6 +34,6 @@ pub fn is_ready(block: &[u8], here: Here, left: u16, group: u8) -> bool
     ensures { λ t. ⌜ ((c : Call) (r : Run) (d : Progress) (g w p : ℕ) → now (block .entry) ≡ blockAt c d g w p → here ≡ hereIn c r (isRead (r .direction)) → left ≡ d .left → t ≡ readyAt group r d) ⌝ }
 {
     ((group == stage::BEGIN) | counts(block, here, left))
-        & (((group < stage::ABORT) & is_done(block))
-            | ((group == stage::ABORT) & has_failed(block)))
+        & (((group < stage::ABORT) & end_image::is_done(block))
+            | ((group == stage::ABORT) & end_image::has_failed(block)))
 }

@@ -7,7 +7,6 @@ use crate::abort;
 use crate::address;
 use crate::begin;
 use crate::here::Here;
-use crate::put;
 use crate::read;
 use crate::ready;
 use crate::send;
@@ -15,6 +14,8 @@ use crate::stage;
 use crate::start;
 use crate::stop;
 use crate::wait;
+use block::at;
+use block::bytes32;
 
 // A call that has ended takes no step, and no stage is of another group.
 pub fn step(
@@ -49,10 +50,10 @@ pub fn step_in(block: &mut [u8], here: Here, answer: u16) -> u64
     requires { ⌜ length (now block) ≡ blockSize ⌝ }
     ensures { λ r. ⌜ StepIn here answer (now (block .entry)) (now (block .exit)) r ⌝ }
 {
-    let left = put::word_at(block, put::LEFT);
-    let group = block[put::GROUP];
-    let what = block[put::WHAT];
-    let phase = block[put::PHASE];
+    let left = bytes32::word_at(block, at::LEFT);
+    let group = block[at::GROUP];
+    let what = block[at::WHAT];
+    let phase = block[at::PHASE];
     if !ready::is_ready(block, here, left, group) {
         return asked::refused();
     }

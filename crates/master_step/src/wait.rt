@@ -20,6 +20,8 @@ use crate::stage;
 use access::Error;
 use access::ending;
 use access::next;
+use block::at;
+use block::bytes32;
 use errors::Checked;
 use images::numbers;
 use registers::Register;
@@ -76,7 +78,7 @@ fn waited(block: &mut [u8], here: Here, left: u16, what: u8) -> u64
             asked::read(Register::Star2)
         }
         stage::TXE => {
-            let place = put::word_at(block, put::PLACE);
+            let place = bytes32::word_at(block, at::PLACE);
             put::to(block, stage::SEND_BYTE, 0, 0);
             asked::send(place)
         }
@@ -145,8 +147,8 @@ fn judged(block: &mut [u8], here: Here, left: u16, what: u8) -> u64
     requires { ⌜ length (now block) ≡ blockSize ⌝ }
     ensures { λ r. ⌜ Waits what here left (now (block .entry)) (now (block .exit)) r (λ (g : Setting) (run : Run) (f : Flag) (d : Progress). judged g run f d (d .word)) ⌝ }
 {
-    let status = put::word_at(block, put::WORD);
-    let chip = numbers::chip_of(block[put::CHIP]);
+    let status = bytes32::word_at(block, at::WORD);
+    let chip = numbers::chip_of(block[at::CHIP]);
     match errors::error_of(status, chip, true) {
         Checked::Fine => tests(block, here, left, what, status),
         Checked::Failed(failure) => go::fails(block, failure),

@@ -1,6 +1,5 @@
 // The nine entries of the library by a stored call's number.
 use crate::stored::Call;
-use access::Ending;
 use access::ending;
 use ch32_i2c::init;
 use ch32_i2c::init_slave;
@@ -55,14 +54,10 @@ pub fn step(
     }
 }
 
-fn ending_in(number: u64) -> Ending {
-    ending::ending_of((number / 256 % 256) as u8, (number / 65536 % 65536) as u16)
-}
-
 // An end of the library as the Rust's. `init` (0) and `init_slave` (5) have no error check; the calls between them are a
 // master's. What is no end's number stays, and differs from every stored end.
 pub fn as_the_rust(entry: u8, chip: u8, end: u64) -> u64 {
-    let ours = ending_in(end);
+    let ours = ending::ending_in(end);
     if (entry == 0) | (entry == 5) | (ending::ending_number(ours) != end) {
         return end;
     }

@@ -100,7 +100,7 @@ received-nothing-learnt = slave-is-secret .received plain one one one-accepted r
 
 -- one byte is stored, and the call is done
 received-arrived : slaveShown plain RespondToWrite one xs .arrivals ≡ record { place = 0; byte = 0x11 } ∷ []
-unfolding slaveShown owed advance hasBit errorFlags
+unfolding slaveShown owed advance hasBit fieldOf errorFlags
 received-arrived = refl
 
 received-ends : slaveShown plain RespondToWrite one ys .end ≡ some (returned 1)

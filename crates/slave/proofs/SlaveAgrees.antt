@@ -3,13 +3,13 @@
 use mathlib.Core.Path.{_≡_, refl, sym, ap, _∙_}
 use mathlib.Core.Bool.{Bool, true, false, cond, not, _&&_}
 use mathlib.Core.List.{List}
-use Prim.Native.Nat.{ℕ, zero, suc, _%_}
+use Prim.Native.Nat.{ℕ, zero, suc}
 use borrow.Author.Tests.{eqb-true, not-false}
 use lib.Dec.{eqb, ltb}
 use lib.ListN.{length, getD}
 use Rattle.registers.specs.declared.register.Register.the-variants.{Ctlr1, Ctlr2, Datar, Star1, Star2}
 use Rattle.registers.specs.Bits.{ACK, ITBUFEN, ADDMODE, ADDR, STOPF, RXNE, TXE, AF, MSL, BUSY, GENCALL, DUALF}
-use Rattle.registers.specs.Fields.{«ADD9_0», «ADD7_1», ADD2}
+use Rattle.registers.specs.Fields.{«ADD9_0», «ADD7_1», ADD2, DATA}
 use Rattle.registers.specs.Word.{hasBit, putBit, fieldOf}
 use Rattle.registers.specs.Flags.{errorFlags}
 use Rattle.registers.proofs.TransferLaws.{slave-transfer-off}
@@ -175,7 +175,7 @@ module _ (g : Setting) (bytes : List ℕ) where
   abbrev receiving : ℕ → ℕ → ℕ → Program
   receiving n m stored =
       spinFrom m stored (λ stored next. access (read Star1) (λ a. cond (hasBit RXNE a)
-      (access (read Datar) (λ b. cond (ltb stored (g .size)) (keep (b % 256) (next (suc stored))) (next stored)))
+      (access (read Datar) (λ b. cond (ltb stored (g .size)) (keep (fieldOf DATA b) (next (suc stored))) (next stored)))
       (cond (hasBit STOPF a) (rust.clear-stopf n last (λ _. storedEnd stored))
       (cond (hasBit ADDR a) (storedEnd stored)
       (ours.check-errors-and-time (g .chip) a n last (λ _. next stored))))))
@@ -192,7 +192,7 @@ module _ (g : Setting) (bytes : List ℕ) where
       (check-errors-and-time-agrees m n stored a _ (counted stored d) (λ v. receive-turns e m n stored (saves v d)))))))
     where
       byte : (b : Bool) → ltb stored (g .size) ≡ b → ((s : ℕ) (d : Progress) → Ag m s (receiving n m s) (to Poll (counted s d)))
-          → Ag m stored (access (read Datar) (λ v. cond b (keep (v % 256) (receiving n m (suc stored))) (receiving n m stored))) (to Receive (counted stored d))
+          → Ag m stored (access (read Datar) (λ v. cond b (keep (fieldOf DATA v) (receiving n m (suc stored))) (receiving n m stored))) (to Receive (counted stored d))
       byte true q rest =
           keeps (ap (λ (b : Bool). cond b (need.Keep stored) need.Drop) q)
           (λ _. along (ap (λ (b : Bool). to Poll (counted (cond b (suc stored) stored) d)) (sym q)) (rest (suc stored) d))

@@ -8,7 +8,7 @@ use lib.ListN.{length, getD}
 use Rattle.registers.specs.declared.chip.Chip.{Chip}
 use Rattle.registers.specs.declared.register.Register.the-variants.{Ctlr1, Ctlr2, Oaddr1, Oaddr2, Datar, Star1, Star2}
 use Rattle.registers.specs.Bits.{PE, ENGC, NOSTRETCH, STOP, ACK, ITERREN, ITEVTEN, ITBUFEN, DMAEN, ADD0, MUST1, ADDMODE, ENDUAL, ADDR, STOPF, RXNE, TXE, BERR, ARLO, AF, OVR, PECERR, TIMEOUT, MSL, BUSY, TRA, GENCALL, DUALF}
-use Rattle.registers.specs.Fields.{«ADD7_1», «ADD9_8», ADD2}
+use Rattle.registers.specs.Fields.{«ADD7_1», «ADD9_8», ADD2, DATA}
 use Rattle.registers.specs.Word.{hasBit, putBit, fieldOf, putField}
 use Rattle.registers.specs.Flags.{errorFlags, clearError}
 use Rattle.access.specs.declared.ending.Error.{Error}
@@ -183,7 +183,7 @@ module _ (chip : Chip) where
                 datar ← readRegister Datar
                 if ltb stored size
                     then (do
-                      store (datar % 256)
+                      store (fieldOf DATA datar)
                       pure (continue (suc stored)))
                     else pure (continue stored))
               else (if hasBit STOPF star1

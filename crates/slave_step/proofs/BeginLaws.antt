@@ -18,9 +18,9 @@ use Rattle.slave_step.specs.Held.{begunFields, firstFields, Moves}
 -- ---- the numbers, kind by kind
 
 pub begun-with : (entry chip group n : ℕ) → n ≡ chipNumber (chipOf chip)
-    → record { entry = entry; chip = n; option = 0; stage = group; what = 0; phase = 0; marks = 0; error = 0; address = 0; run = 0; left = 0; place = 0; word = 0; divider = 0; rise = 0; value = 0; count = 0; second = 0; mhz = 0; unused = 0 } ≡ begunFields entry chip group
+    → record { entry = entry; chip = n; option = 0; stage = group; what = 0; phase = 0; marks = 0; error = 0; address = 0; run = 0; left = 0; place = 0; word = 0; divider = 0; rise = 0; value = 0; count = 0; second = 0; mhz = 0; extra = 0 } ≡ begunFields entry chip group
 unfolding begunFields
-begun-with entry chip group n e = ap (λ (n : ℕ). record { entry = entry; chip = n; option = 0; stage = group; what = 0; phase = 0; marks = 0; error = 0; address = 0; run = 0; left = 0; place = 0; word = 0; divider = 0; rise = 0; value = 0; count = 0; second = 0; mhz = 0; unused = 0 }) e
+begun-with entry chip group n e = ap (λ (n : ℕ). record { entry = entry; chip = n; option = 0; stage = group; what = 0; phase = 0; marks = 0; error = 0; address = 0; run = 0; left = 0; place = 0; word = 0; divider = 0; rise = 0; value = 0; count = 0; second = 0; mhz = 0; extra = 0 }) e
 
 module _ (chip : ℕ) where
   pub listen-first : begunFields 7 chip 0 ≡ firstFields Listen chip

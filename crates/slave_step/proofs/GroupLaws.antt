@@ -23,7 +23,7 @@ use Rattle.slave.specs.declared.state.Progress.{Progress}
 use Rattle.slave.specs.declared.state.Setting.{Setting}
 use Rattle.slave.specs.Fits.{isListen, isRespondToWrite, isRespondToRead, counts, returns, fitsAt}
 use Rattle.stage_numbers.specs.SlaveStage.{isStage, stageOf, stopfForNumber, stopfForOf, stopfStageOf, staleStageOf, armStageOf, matchStageOf, halfOf, errorStageOf, abortStageOf}
-use Rattle.stage_numbers.proofs.Compared.{turned, joined, with-true}
+use Rattle.access.proofs.Compared.{turned, joined, with-true}
 use Rattle.stage_numbers.proofs.SlaveStageRanges.{stopf-for-range, stopf-stage-range, stale-stage-range, arm-stage-range, match-stage-range, half-range, error-stage-range, abort-stage-range}
 use Rattle.slave_step.specs.Held.{settingAt, endsAt, Ready}
 use Rattle.slave_step.proofs.Laws.{listen-told, write-told, read-told, running, ending}

@@ -8,8 +8,11 @@ use native.Mathlib.Omega.{arith}
 use lib.Dec.{eqb, leb, ltb}
 use lib.ListN.{length}
 use borrow.Author.Tests.{eqb-true, ne-eqb, lt-ltb, le-leb, lt-leb, leb-true}
-use Rattle.access.specs.declared.ending.Error.{Error}
-use Rattle.access.specs.Endings.{errorOf, returned, failed, endingOf, isDone, hasFailed, endingError, endingValue}
+use Rattle.access.specs.declared.ending.Ending.{Ending}
+use Rattle.access.specs.declared.ending.Ending.the-variants.{Failed}
+use Rattle.access.specs.declared.ending.Failure.{Failure}
+use Rattle.access.specs.Endings.{endingOf, isDone, hasFailed, isEnding, isPlain}
+use Rattle.access.proofs.EndingLaws.{ending-plain, plain-ending, as-failed, failed-told}
 use Rattle.access.specs.declared.need.Need.the-variants as need
 use Rattle.access.specs.Machine.{isEnd}
 use Rattle.access.proofs.Choice.{first-true, second-true, both-true}
@@ -19,9 +22,8 @@ use Rattle.block.specs.Bytes32.{fieldsOf, bytesOf, Bytes}
 use Rattle.block.proofs.Codec.{same-said, bytes-back}
 use Rattle.images.specs.declared.slave_image.SlaveFound.{SlaveFound}
 use Rattle.images.specs.declared.slave_image.SlaveFound.the-variants.{At, Nothing}
-use Rattle.images.specs.Numbers.{chipOf, isChip, isEnding}
+use Rattle.images.specs.Numbers.{chipOf, isChip}
 use Rattle.images.specs.SlaveImage.{isKind, slaveOf, slaveIn, unusedEmpty, isCall}
-use Rattle.images.proofs.NumberRanges.{done-range, failed-range}
 use Rattle.images.proofs.SlaveImageRanges.{found, no-ending, no-stage, no-call}
 use Rattle.slave.specs.declared.stage.StopfFor.the-variants as stopf
 use Rattle.slave.specs.declared.stage.StopfStage.the-variants as clearing
@@ -41,56 +43,47 @@ use Rattle.slave.specs.Fits.{isListen, isRespondToWrite, isRespondToRead, count
 use Rattle.slave.specs.Machine.{owedAt, advanceAt}
 use Rattle.slave.specs.Steps.{settingIn, fitsLent, isOpen}
 use Rattle.stage_numbers.specs.SlaveStage.{isStage, stageOf, stageGroup, stageWhat, stagePhase}
-use Rattle.stage_numbers.proofs.Compared.{turned, itself, with-true, reordered}
+use Rattle.access.proofs.Compared.{turned, itself, with-true, reordered}
 use Rattle.slave_step.specs.Held.{fieldsAt, blockAt, settingAt, closing, endsAt, readyAt, Refuses, Steps, Step, StepsFrom}
 use Rattle.slave_step.proofs.Laws.{refuses}
-use Rattle.slave_step.proofs.ReadyLaws.{failed-told}
 
 -- ---- a block whose numbers beside the stage's are a call's is the block of the call and the progress that it tells
 
 module _ (f : Fields) (size : ℕ) where
-  same-call : sameFields (fieldsAt (settingIn (slaveOf f) size) (slaveOf f .progress) (f .stage) (f .what) (f .phase)) f ≡ isCall f && (true && isEnding (f .error) (f .value))
+  same-call : sameFields (fieldsAt (settingIn (slaveOf f) size) (slaveOf f .progress) (f .stage) (f .what) (f .phase)) f ≡ isCall f && (true && isEnding (f .error) (f .value) (f .extra))
   unfolding sameFields fieldsAt slaveOf isCall isKind isChip isEnding unusedEmpty
   same-call =
-      rw (itself (f .stage), itself (f .what), itself (f .phase), itself (f .word), itself (f .count), turned 0 (f .option), turned 0 (f .run), turned 0 (f .left), turned 0 (f .place), turned 0 (f .divider), turned 0 (f .rise), turned 0 (f .marks), turned 0 (f .address), turned 0 (f .second), turned 0 (f .mhz), turned 0 (f .unused), with-true (eqb (f .address) 0))
-      (reordered (isKind (f .entry)) (eqb (f .option) 0) (isChip (f .chip)) true (isEnding (f .error) (f .value)) (unusedEmpty f))
+      rw (itself (f .stage), itself (f .what), itself (f .phase), itself (f .word), itself (f .count), turned 0 (f .option), turned 0 (f .run), turned 0 (f .left), turned 0 (f .place), turned 0 (f .divider), turned 0 (f .rise), turned 0 (f .marks), turned 0 (f .address), turned 0 (f .second), turned 0 (f .mhz), with-true (eqb (f .address) 0))
+      (reordered (isKind (f .entry)) (eqb (f .option) 0) (isChip (f .chip)) true (isEnding (f .error) (f .value) (f .extra)) (unusedEmpty f))
 
-  fields-same : isCall f ≡ true → isEnding (f .error) (f .value) ≡ true → fieldsAt (settingIn (slaveOf f) size) (slaveOf f .progress) (f .stage) (f .what) (f .phase) ≡ f
+  fields-same : isCall f ≡ true → isEnding (f .error) (f .value) (f .extra) ≡ true → fieldsAt (settingIn (slaveOf f) size) (slaveOf f .progress) (f .stage) (f .what) (f .phase) ≡ f
   fields-same c e = same-said _ f (same-call ∙ both-true c e)
 
-pub block-told : (b : List ℕ) (size : ℕ) → length b ≡ 32 → Bytes b → isCall (fieldsOf b) ≡ true → isEnding (fieldsOf b .error) (fieldsOf b .value) ≡ true
+pub block-told : (b : List ℕ) (size : ℕ) → length b ≡ 32 → Bytes b → isCall (fieldsOf b) ≡ true → isEnding (fieldsOf b .error) (fieldsOf b .value) (fieldsOf b .extra) ≡ true
     → b ≡ blockAt (settingIn (slaveOf (fieldsOf b)) size) (slaveOf (fieldsOf b) .progress) (fieldsOf b .stage) (fieldsOf b .what) (fieldsOf b .phase)
 unfolding blockAt
 block-told b size n bytes c e = sym (bytes-back b n bytes) ∙ ap bytesOf (sym (fields-same (fieldsOf b) size c e))
 
 -- ---- endings by their numbers
 
-ending-plain : (n v : ℕ) → isEnding n v ≡ true → eqb n 0 || eqb v 0 ≡ true
-unfolding isEnding
-ending-plain n v e = go (eqb n 0) e
-  where
-    go : (c : Bool) → eqb (endingError (cond c (returned v) (failed (errorOf n)))) n && eqb (endingValue (cond c (returned v) (failed (errorOf n)))) v ≡ true → c || eqb v 0 ≡ true
-    go true e = refl
-    go false e = turned v 0 ∙ second-true (eqb (endingError (failed (errorOf n))) n) (eqb 0 v) e
-
 -- an error has only the stages of an abort
-met-only : (a c : Bool) (x : Kind) (size count : ℕ) (y : Error) → cond a (returnsIn x size count (failed y)) (cond c (hasFailed (failed y)) (isDone (failed y))) ≡ true → hasFailed (failed y) ≡ true
-met-only true c x size count y h = absurd (true≢false (sym h))
-met-only false true x size count y h = h
-met-only false false x size count y h = absurd (true≢false (sym h))
+met-only : (a c : Bool) (x : Kind) (size count : ℕ) (f : Failure) → cond a (returnsIn x size count (Failed f)) (cond c (hasFailed (Failed f)) (isDone (Failed f))) ≡ true → hasFailed (Failed f) ≡ true
+met-only true c x size count f h = absurd (true≢false (sym h))
+met-only false true x size count f h = h
+met-only false false x size count f h = absurd (true≢false (sym h))
 
-module _ (a c : Bool) (x : Kind) (size count n v : ℕ) (k : n < 256) where
-  ready-ending : cond a (returnsIn x size count (endingOf n v)) (cond c (hasFailed (endingOf n v)) (isDone (endingOf n v))) ≡ true → eqb n 0 || eqb v 0 ≡ true → isEnding n v ≡ true
-  ready-ending h e = go (eqb n 0) refl
+module _ (a c : Bool) (k : Kind) (size count n v x : ℕ) (byte : n < 256) where
+  abbrev readyWith : Ending → Bool
+  readyWith e = cond a (returnsIn k size count e) (cond c (hasFailed e) (isDone e))
+
+  ready-ending : readyWith (endingOf n v x) ≡ true → isPlain n v x ≡ true → isEnding n v x ≡ true
+  ready-ending h e = plain-ending n v x (go (eqb n 0) refl) e
     where
-      go : (b : Bool) → eqb n 0 ≡ b → isEnding n v ≡ true
-      go true z = rw (eqb-true n 0 z) (sym (done-range v))
+      go : (b : Bool) → eqb n 0 ≡ b → n ≤ 6
+      go true z = let q = eqb-true n 0 z in omega arith
       go false z =
-          let failing : endingOf n v ≡ failed (errorOf n) = ap (λ (b : Bool). cond b (returned v) (failed (errorOf n))) z in
-          let met : hasFailed (failed (errorOf n)) ≡ true = met-only a c x size count (errorOf n) (rw failing at h) in
-          let within : n ≤ 6 = leb-true n 6 (second-true (ltb 0 n) (leb n 6) (failed-told n v k ∙ ap hasFailed failing ∙ met)) in
-          let none : eqb v 0 ≡ true = rw z at e in
-          sym (failed-range n v k z (ne-eqb n 7 (λ q. omega arith))) ∙ both-true (lt-ltb n 28 (omega arith)) none
+          let met : hasFailed (endingOf n v x) ≡ true = as-failed (λ (y : Ending). readyWith y ≡ true → hasFailed y ≡ true) n v x z (met-only a c k size count) h in
+          leb-true n 6 (second-true (ltb 0 n) (leb n 6) (failed-told n v x byte ∙ met))
 
 -- ---- a stage that fits and has not ended is ready
 
@@ -198,12 +191,12 @@ module _ (size a : ℕ) (b after : List ℕ) (asked : ℕ) where
     abbrev From : SlaveFound → Type 0
     From x = StepsFrom x size a b after asked
 
-    by-numbers : (isCall f ≡ false → Refuses b after asked) → (isStage (f .stage) (f .what) (f .phase) ≡ false → Refuses b after asked) → (isEnding (f .error) (f .value) ≡ false → Refuses b after asked)
-        → (isCall f ≡ true → isStage (f .stage) (f .what) (f .phase) ≡ true → isEnding (f .error) (f .value) ≡ true → From (At (slaveOf f))) → From (slaveIn f)
+    by-numbers : (isCall f ≡ false → Refuses b after asked) → (isStage (f .stage) (f .what) (f .phase) ≡ false → Refuses b after asked) → (isEnding (f .error) (f .value) (f .extra) ≡ false → Refuses b after asked)
+        → (isCall f ≡ true → isStage (f .stage) (f .what) (f .phase) ≡ true → isEnding (f .error) (f .value) (f .extra) ≡ true → From (At (slaveOf f))) → From (slaveIn f)
     by-numbers nc ns ne is-there =
         either-way (isCall f)
         (λ c. either-way (isStage (f .stage) (f .what) (f .phase))
-        (λ s. either-way (isEnding (f .error) (f .value)) (λ e. subst From (found f c s e) (is-there c s e)) (λ e. subst From (no-ending f c s e) (ne e)))
+        (λ s. either-way (isEnding (f .error) (f .value) (f .extra)) (λ e. subst From (found f c s e) (is-there c s e)) (λ e. subst From (no-ending f c s e) (ne e)))
         (λ s. subst From (no-stage f c s) (ns s)))
         (λ c. subst From (no-call f c) (nc c))
 
@@ -227,39 +220,39 @@ module _ (size a : ℕ) (b after : List ℕ) (asked : ℕ) where
         let ready : readyAt g d (stageGroup st) (stageWhat st) ≡ true = fits-ready g d st open-still (second-true (leb size 65535) (fitsAt g st d) lent) in
         true≢false (sym ready ∙ ap (λ (n : ℕ). readyAt g d n (stageWhat st)) (group-told (f .stage) (f .what) (f .phase) s) ∙ ap (λ (n : ℕ). readyAt g d (f .stage) n) (what-told (f .stage) (f .what) (f .phase) s) ∙ short))
 
-    module _ (entry count value : ℕ) (call ready : Bool) (call-is : call ≡ eqb (f .entry) entry && isCall f) (value-is : value ≡ f .value) (ready-is : ready ≡ readyAt (settingAt (chipOf (f .chip)) entry size) (slaveOf f .progress) (f .stage) (f .what)) where
+    module _ (entry count : ℕ) (call plain ready : Bool) (call-is : call ≡ eqb (f .entry) entry && isCall f) (plain-is : plain ≡ isPlain (f .error) (f .value) (f .extra)) (ready-is : ready ≡ readyAt (settingAt (chipOf (f .chip)) entry size) (slaveOf f .progress) (f .stage) (f .what)) where
       ready-by : eqb (f .entry) entry ≡ true → ready ≡ readyAt (settingIn (slaveOf f) size) (slaveOf f .progress) (f .stage) (f .what)
       unfolding slaveOf
       ready-by e = ready-is ∙ ap (λ (n : ℕ). readyAt (settingAt (chipOf (f .chip)) n size) (slaveOf f .progress) (f .stage) (f .what)) (sym (eqb-true (f .entry) entry e))
 
       -- the tests find no state that is open
-      pub unheld : call && ((eqb (f .error) 0 || eqb value 0) && ready) ≡ false → Refuses b after asked → From (cond (eqb (f .entry) entry) (slaveIn f) Nothing)
+      pub unheld : call && (plain && ready) ≡ false → Refuses b after asked → From (cond (eqb (f .entry) entry) (slaveIn f) Nothing)
       unheld test r =
           by-entry entry (λ _. r)
           (λ n. by-numbers (λ _. r) (λ _. r) (λ _. r)
           (λ c s e.
           let called : call ≡ true = call-is ∙ both-true n c in
-          let plain : eqb (f .error) 0 || eqb value 0 ≡ true = ap (λ (v : ℕ). eqb (f .error) 0 || eqb v 0) value-is ∙ ending-plain (f .error) (f .value) e in
-          let not-ready : ready ≡ false = rw (called, plain) at test in
+          let is-plain : plain ≡ true = plain-is ∙ ending-plain (f .error) (f .value) (f .extra) e in
+          let not-ready : ready ≡ false = rw (called, is-plain) at test in
           refuses (unready s (sym (ready-by n) ∙ not-ready)) r))
 
       -- they find a state, whose step it is
-      pub stepped : size ≤ 65535 → f .error < 256 → count ≡ f .count → (isCall f ≡ true → isEnding (f .error) (f .value) ≡ true → b ≡ blockAt (settingIn (slaveOf f) size) (slaveOf f .progress) (f .stage) (f .what) (f .phase))
-          → call && ((eqb (f .error) 0 || eqb value 0) && ready) ≡ true → Step (f .stage) entry size count (f .what) (f .phase) a b after asked → From (cond (eqb (f .entry) entry) (slaveIn f) Nothing)
+      pub stepped : size ≤ 65535 → f .error < 256 → count ≡ f .count → (isCall f ≡ true → isEnding (f .error) (f .value) (f .extra) ≡ true → b ≡ blockAt (settingIn (slaveOf f) size) (slaveOf f .progress) (f .stage) (f .what) (f .phase))
+          → call && (plain && ready) ≡ true → Step (f .stage) entry size count (f .what) (f .phase) a b after asked → From (cond (eqb (f .entry) entry) (slaveIn f) Nothing)
       unfolding fitsLent fits slaveOf
       stepped small byte count-is held test step =
-          let called : eqb (f .entry) entry && isCall f ≡ true = sym call-is ∙ first-true call ((eqb (f .error) 0 || eqb value 0) && ready) test in
+          let called : eqb (f .entry) entry && isCall f ≡ true = sym call-is ∙ first-true call (plain && ready) test in
           let n : eqb (f .entry) entry ≡ true = first-true (eqb (f .entry) entry) (isCall f) called in
           let c : isCall f ≡ true = second-true (eqb (f .entry) entry) (isCall f) called in
-          let tests : (eqb (f .error) 0 || eqb value 0) && ready ≡ true = second-true call ((eqb (f .error) 0 || eqb value 0) && ready) test in
-          let plain : eqb (f .error) 0 || eqb (f .value) 0 ≡ true = ap (λ (v : ℕ). eqb (f .error) 0 || eqb v 0) (sym value-is) ∙ first-true (eqb (f .error) 0 || eqb value 0) ready tests in
+          let tests : plain && ready ≡ true = second-true call (plain && ready) test in
+          let is-plain : isPlain (f .error) (f .value) (f .extra) ≡ true = sym plain-is ∙ first-true plain ready tests in
           let g : Setting = settingIn (slaveOf f) size in
           let d : Progress = slaveOf f .progress in
           let st : Stage = stageOf (f .stage) (f .what) (f .phase) in
-          let both : counts g d && endsAt g d (f .stage) (f .what) ≡ true = sym (ready-by n) ∙ second-true (eqb (f .error) 0 || eqb value 0) ready tests in
+          let both : counts g d && endsAt g d (f .stage) (f .what) ≡ true = sym (ready-by n) ∙ second-true plain ready tests in
           let counted : counts g d ≡ true = first-true (counts g d) (endsAt g d (f .stage) (f .what)) both in
           let ending : endsAt g d (f .stage) (f .what) ≡ true = second-true (counts g d) (endsAt g d (f .stage) (f .what)) both in
-          let e : isEnding (f .error) (f .value) ≡ true = ready-ending (closing (f .stage) (f .what)) (eqb (f .stage) 9) (g .kind) size (f .count) (f .error) (f .value) byte ending plain in
+          let e : isEnding (f .error) (f .value) (f .extra) ≡ true = ready-ending (closing (f .stage) (f .what)) (eqb (f .stage) 9) (g .kind) size (f .count) (f .error) (f .value) (f .extra) byte ending is-plain in
           let steps : Steps (ltb (f .stage) 10 && (isStage (f .stage) (f .what) (f .phase) && fitsAt g st d)) g (advanceAt g st d a) b after asked = subst (λ (m : ℕ). Step (f .stage) m size count (f .what) (f .phase) a b after asked) (sym (eqb-true (f .entry) entry n)) step (chipOf (f .chip)) d (record { held = held c e; counted = counted; ending = ending }) count-is in
           by-entry entry (λ z. absurd (true≢false (sym n ∙ z)))
           (λ _. by-numbers (λ z. absurd (true≢false (sym c ∙ z))) (λ z. steps .refused (no-stage-fits (ltb (f .stage) 10) (fitsAt g st d) z)) (λ z. absurd (true≢false (sym e ∙ z)))

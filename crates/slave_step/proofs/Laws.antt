@@ -9,11 +9,13 @@ use lib.Dec.{eqb}
 use lib.ListN.{getD}
 use borrow.Author.Tests.{eqb-true, ne-eqb}
 use Rattle.access.specs.declared.ending.Ending.{Ending}
-use Rattle.access.specs.declared.ending.Ending.the-variants.{Done, Failed}
 use Rattle.access.specs.declared.need.Need.{Need}
-use Rattle.access.specs.Endings.{done, returned, isDone, endingError, endingValue}
+use Rattle.access.specs.Endings.{isDone}
 use Rattle.access.proofs.Choice.{first-true}
 use Rattle.block.specs.Bytes32.{bytesOf, wordAt}
+use Rattle.block.specs.declared.fields.Fields.{Fields}
+use Rattle.images.specs.EndImage.{KeepsEnd, withEnd}
+use Rattle.images.proofs.EndImageLaws.{keeps-end}
 use Rattle.images.specs.Numbers.{chipOf}
 use Rattle.images.specs.SlaveImage.{kindOf, slaveFields}
 use Rattle.images.proofs.NumberLaws.{chip-back}
@@ -23,8 +25,8 @@ use Rattle.slave.specs.declared.state.Kind.the-variants.{Listen, RespondToWrite
 use Rattle.slave.specs.declared.state.Move.{Move}
 use Rattle.slave.specs.declared.state.Progress.{Progress}
 use Rattle.slave.specs.declared.state.Setting.{Setting}
-use Rattle.slave.specs.Machine.{to, owedAt}
-use Rattle.slave.specs.Fits.{isListen, isRespondToWrite, isRespondToRead, counts, returns, returnsIn, runs, closes}
+use Rattle.slave.specs.Machine.{to, owedAt, endsWith}
+use Rattle.slave.specs.Fits.{isListen, isRespondToWrite, isRespondToRead, counts, returns, runs, closes}
 use Rattle.slave.specs.Steps.{stateAt}
 use Rattle.stage_numbers.specs.SlaveStage.{stageGroup, stageWhat, stagePhase}
 use Rattle.asked.specs.Asked.{Asks}
@@ -65,25 +67,24 @@ goes {g} {after} {asked} e m = subst (λ (z : Move). Moves g z after asked) e m
 word-back : (n : ℕ) → n % 256 + n / 256 * 256 ≡ n
 word-back n = omega arith
 
-long-back : (n : ℕ) → n % 65536 + n / 65536 * 65536 ≡ n
-long-back n = omega arith
-
 module _ (g : Setting) (d : Progress) (n w p : ℕ) where
   pub word-at : wordAt (blockAt g d n w p) 16 ≡ d .word
   unfolding blockAt bytesOf fieldsAt
   word-at = word-back (d .word)
 
-  pub value-at : wordAt (blockAt g d n w p) 22 ≡ endingValue (d .ending)
-  unfolding blockAt bytesOf fieldsAt
-  value-at = word-back (endingValue (d .ending))
-
-  pub error-at : getD (blockAt g d n w p) 7 0 ≡ endingError (d .ending)
-  unfolding blockAt bytesOf fieldsAt
-  error-at = refl
-
   pub chip-at : chipOf (getD (blockAt g d n w p) 1 0) ≡ g .chip
   unfolding blockAt bytesOf fieldsAt
   chip-at = chip-back (g .chip)
+
+-- how the call is to end
+module _ (g : Setting) (d : Progress) (n w p : ℕ) {b : List ℕ} (held : b ≡ blockAt g d n w p) where
+  pub end-at : KeepsEnd b (d .ending)
+  unfolding blockAt fieldsAt
+  end-at = subst (λ (x : List ℕ). KeepsEnd x (d .ending)) (sym held) (keeps-end (fieldsAt g d n w p) (d .ending) refl refl refl)
+
+  pub ends-at : (x : Ending) {after : List ℕ} → ((f : Fields) → b ≡ bytesOf f → after ≡ bytesOf (withEnd x f)) → after ≡ blockAt g (endsWith x d) n w p
+  unfolding blockAt fieldsAt
+  ends-at x put = put (fieldsAt g d n w p) held
 
 -- ---- tests
 
@@ -98,17 +99,6 @@ told g d n p e h = h ∙ ap (λ (m : ℕ). blockAt g d n m p) (sym e)
 -- a number that is none of those below n is n or more
 pub past : (n w : ℕ) → n ≤ w → (w ≡ n → ⊥) → suc n ≤ w
 past n w h e = omega arith
-
--- ---- endings
-
-pub ended-done : (e : Ending) → isDone e ≡ true → e ≡ done
-ended-done (Done o) h = ap returned (eqb-true (o .value) 0 h)
-ended-done (Failed f) h = absurd (true≢false (sym h))
-
--- what is to be returned is the block's value
-pub value-told : (x : Kind) (size count : ℕ) (e : Ending) → returnsIn x size count e ≡ true → returned (endingValue e) ≡ e
-value-told x size count (Done o) h = refl
-value-told x size count (Failed f) h = absurd (true≢false (sym h))
 
 -- ---- kinds by their number
 

@@ -1,6 +1,6 @@
 -- A byte to keep is stored exactly by a step that is taken: the number of a refusal tells.
 -- Assumes nothing.
-use Prim.Native.Nat.{ℕ, _%_}
+use Prim.Native.Nat.{ℕ}
 use native.Mathlib.Omega.{arith}
 use mathlib.Core.Path.{_≡_, refl, sym, ap, _∙_}
 use mathlib.Core.Bool.{Bool, true, false, cond, not, _&&_, true≢false}
@@ -8,6 +8,8 @@ use mathlib.Core.List.{List}
 use lib.Dec.{eqb, ltb}
 use lib.ListN.{getD, set}
 use borrow.Author.Tests.{eqb-true, eqb-false}
+use Rattle.registers.specs.Word.{fieldOf}
+use Rattle.registers.specs.Fields.{DATA}
 use Rattle.registers.specs.declared.chip.Chip.{Chip}
 use Rattle.access.specs.declared.ending.Error.the-variants.{InvalidState}
 use Rattle.access.specs.declared.need.Need.the-variants as need
@@ -40,13 +42,13 @@ use Rattle.stage_numbers.proofs.SlaveStageLaws.{stage-back}
 use Rattle.asked.specs.Asked.{Asks, isKeep}
 use Rattle.slave_step.specs.Held.{heldIn, StepsFrom, StoresFrom}
 
-received-kept : (b : Bool) (n a : ℕ) (bytes : List ℕ) → kept (cond b (need.Keep n) need.Drop) a bytes ≡ cond (isKeep (cond b (need.Keep n) need.Drop)) (set bytes n (a % 256)) bytes
+received-kept : (b : Bool) (n a : ℕ) (bytes : List ℕ) → kept (cond b (need.Keep n) need.Drop) a bytes ≡ cond (isKeep (cond b (need.Keep n) need.Drop)) (set bytes n (fieldOf DATA a)) bytes
 received-kept true n a bytes = refl
 received-kept false n a bytes = refl
 
 module _ (g : Setting) (d : Progress) where
   -- an answer is kept at the place that the block counts, or not at all
-  pub kept-at : (st : Stage) (a : ℕ) (bytes : List ℕ) → kept (owedAt g st d) a bytes ≡ cond (isKeep (owedAt g st d)) (set bytes (d .count) (a % 256)) bytes
+  pub kept-at : (st : Stage) (a : ℕ) (bytes : List ℕ) → kept (owedAt g st d) a bytes ≡ cond (isKeep (owedAt g st d)) (set bytes (d .count) (fieldOf DATA a)) bytes
   kept-at (stage.ClearStopf f clearing.Status) a bytes = refl
   kept-at (stage.ClearStopf f clearing.Read) a bytes = refl
   kept-at (stage.ClearStopf f clearing.Write) a bytes = refl
@@ -145,12 +147,12 @@ module _ (entry : ℕ) (b after buffer : List ℕ) (size a asked n count : ℕ) 
       ∙ ap (λ (m : ℕ). isKeep (owedAt (settingIn s size) (stageOf m (stageWhat (s .stage)) (stagePhase (s .stage))) (s .progress))) (sym (group-of entry b s e))
       ∙ ap (λ (st : Stage). isKeep (owedAt (settingIn s size) st (s .progress))) (stage-back (s .stage))
 
-  pub stores : (x : SlaveFound) → heldIn entry b ≡ x → StepsFrom x size a b after asked → keeping && not (eqb asked n) ≡ true → StoresFrom x size a buffer (set buffer count (a % 256))
+  pub stores : (x : SlaveFound) → heldIn entry b ≡ x → StepsFrom x size a b after asked → keeping && not (eqb asked n) ≡ true → StoresFrom x size a buffer (set buffer count (fieldOf DATA a))
   stores (At s) e steps t =
       let other : eqb asked n ≡ false = unset (eqb asked n) (second-true keeping (not (eqb asked n)) t) in
       let taken : isOpen s size ≡ true = not-false (isOpen s size) (λ z. eqb-false asked n other (steps .refused z .ended .number ∙ sym (number .number))) in
       let keeps : isKeep (needOf s size) ≡ true = sym (keeping-of s e) ∙ first-true keeping (not (eqb asked n)) t in
-      ap (λ (m : ℕ). set buffer m (a % 256)) (place-of s e) ∙ when-true (set buffer (s .progress .count) (a % 256)) buffer keeps ∙ sym (kept-at (settingIn s size) (s .progress) (s .stage) a buffer) ∙ when-true (kept (needOf s size) a buffer) buffer taken
+      ap (λ (m : ℕ). set buffer m (fieldOf DATA a)) (place-of s e) ∙ when-true (set buffer (s .progress .count) (fieldOf DATA a)) buffer keeps ∙ sym (kept-at (settingIn s size) (s .progress) (s .stage) a buffer) ∙ when-true (kept (needOf s size) a buffer) buffer taken
   stores Nothing e steps t =
       absurd (eqb-false asked n (unset (eqb asked n) (second-true keeping (not (eqb asked n)) t)) (steps .ended .number ∙ sym (number .number)))
 
@@ -159,7 +161,7 @@ module _ (entry : ℕ) (b after buffer : List ℕ) (size a asked n count : ℕ) 
     where
       go : (v : Bool) → keeping ≡ v → (u : Bool) → eqb asked n ≡ u → StoresFrom (At s) size a buffer buffer
       go false k u q =
-          both-same (isOpen s size) buffer ∙ ap (λ (x : List ℕ). cond (isOpen s size) x buffer) (when-false (set buffer (s .progress .count) (a % 256)) buffer (sym (keeping-of s e) ∙ k) ∙ sym (kept-at (settingIn s size) (s .progress) (s .stage) a buffer))
+          both-same (isOpen s size) buffer ∙ ap (λ (x : List ℕ). cond (isOpen s size) x buffer) (when-false (set buffer (s .progress .count) (fieldOf DATA a)) buffer (sym (keeping-of s e) ∙ k) ∙ sym (kept-at (settingIn s size) (s .progress) (s .stage) a buffer))
       go true k true q =
           when-false (kept (needOf s size) a buffer) buffer
           (not-true (isOpen s size) (λ z. goes-on (settingIn s size) (s .progress) (s .stage) a asked (sym (keeping-of s e) ∙ k) (steps .taken z .owed) (eqb-true asked n q ∙ number .number)))

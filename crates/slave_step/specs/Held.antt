@@ -9,7 +9,7 @@ use lib.ListN.{length}
 use Rattle.registers.specs.declared.chip.Chip.{Chip}
 use Rattle.access.specs.declared.ending.Error.the-variants.{InvalidState}
 use Rattle.access.specs.declared.need.Need.the-variants as need
-use Rattle.access.specs.Endings.{done, failed, isDone, hasFailed, endingError, endingValue}
+use Rattle.access.specs.Endings.{failed, isDone, hasFailed, endingError, endingValue, endingExtra}
 use Rattle.access.specs.Machine.{kept as stored}
 use Rattle.block.specs.declared.fields.Fields.{Fields}
 use Rattle.block.specs.Bytes32.{bytesOf, fieldsOf, blockSize}
@@ -29,7 +29,7 @@ use Rattle.asked.specs.Asked.{Asks}
 
 -- what a block says of the call g with the progress d, where these are the numbers of the stage
 unfoldable pub fieldsAt : Setting → Progress → ℕ → ℕ → ℕ → Fields
-fieldsAt g d group what phase = record { entry = kindEntry (g .kind); chip = chipNumber (g .chip); option = 0; stage = group; what = what; phase = phase; marks = 0; error = endingError (d .ending); address = 0; run = 0; left = 0; place = 0; word = d .word; divider = 0; rise = 0; value = endingValue (d .ending); count = d .count; second = 0; mhz = 0; unused = 0 }
+fieldsAt g d group what phase = record { entry = kindEntry (g .kind); chip = chipNumber (g .chip); option = 0; stage = group; what = what; phase = phase; marks = 0; error = endingError (d .ending); address = 0; run = 0; left = 0; place = 0; word = d .word; divider = 0; rise = 0; value = endingValue (d .ending); count = d .count; second = 0; mhz = 0; extra = endingExtra (d .ending) }
 
 -- its bytes
 unfoldable pub blockAt : Setting → Progress → ℕ → ℕ → ℕ → List ℕ
@@ -37,7 +37,7 @@ blockAt g d group what phase = bytesOf (fieldsAt g d group what phase)
 
 -- what a block says of a call that has done nothing yet, at the first stage of a group
 unfoldable pub begunFields : ℕ → ℕ → ℕ → Fields
-begunFields entry chip group = record { entry = entry; chip = chipNumber (chipOf chip); option = 0; stage = group; what = 0; phase = 0; marks = 0; error = 0; address = 0; run = 0; left = 0; place = 0; word = 0; divider = 0; rise = 0; value = 0; count = 0; second = 0; mhz = 0; unused = 0 }
+begunFields entry chip group = record { entry = entry; chip = chipNumber (chipOf chip); option = 0; stage = group; what = 0; phase = 0; marks = 0; error = 0; address = 0; run = 0; left = 0; place = 0; word = 0; divider = 0; rise = 0; value = 0; count = 0; second = 0; mhz = 0; extra = 0 }
 
 -- where a call of a kind begins
 unfoldable pub firstFields : Kind → ℕ → Fields
@@ -71,14 +71,10 @@ pub record Steps (test : Bool) (g : Setting) (m : Move) (before after : List ℕ
 abbrev pub Goes : List ℕ → List ℕ → ℕ → (Progress → Move) → Type 0
 Goes before after asked m = (g : Setting) (d : Progress) (n w p : ℕ) → before ≡ blockAt g d n w p → Moves g (m d) after asked
 
--- the same while no end is known
-abbrev pub GoesOpen : List ℕ → List ℕ → ℕ → (Progress → Move) → Type 0
-GoesOpen before after asked m = (g : Setting) (d : Progress) (n w p : ℕ) → d .ending ≡ done → before ≡ blockAt g d n w p → Moves g (m d) after asked
-
 -- the same with so many bytes lent, of which so many are counted
 abbrev pub GoesCounting : ℕ → ℕ → List ℕ → List ℕ → ℕ → (Progress → Move) → Type 0
 GoesCounting size count before after asked m =
-    (chip : Chip) (x : Kind) (d : Progress) (n w p : ℕ) → d .ending ≡ done → count ≡ d .count → before ≡ blockAt (record { chip = chip; kind = x; size = size }) d n w p
+    (chip : Chip) (x : Kind) (d : Progress) (n w p : ℕ) → count ≡ d .count → before ≡ blockAt (record { chip = chip; kind = x; size = size }) d n w p
     → Moves (record { chip = chip; kind = x; size = size }) (m d) after asked
 
 -- ---- THE CONTRACT OF A GROUP

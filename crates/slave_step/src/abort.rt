@@ -48,12 +48,12 @@ pub fn abort_slave_transfer(block: &mut [u8], what: u8, phase: u8, answer: u16) 
                 put::phase(block, stage::STOP_READ);
                 return asked::read(Register::Ctlr1);
             }
-            go::aborted(block)
+            go::ends(block)
         }
         stage::STOP_READ => {
             let stopped = word::set_bit(answer, bits::STOP);
             go::modifies(block, stage::STOP_WRITE, answer, Register::Ctlr1, stopped)
         }
-        _ => go::aborted(block),
+        _ => go::ends(block),
     }
 }

@@ -37,7 +37,7 @@ fn begun_fields(entry: u8, chip: u8, group: u8) -> Fields
         count: 0,
         second: 0,
         mhz: 0,
-        unused: 0,
+        extra: 0,
     }
 }
 

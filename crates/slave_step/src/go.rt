@@ -1,31 +1,29 @@
 // Ways that several groups go: an error, a register changed, an end.
 ghost use mathlib.Core.Path.{_≡_};
-ghost use mathlib.Core.Bool.{true};
 ghost use Prim.Native.Nat.{ℕ};
 ghost use lib.ListN.{length};
-ghost use Rattle.access.specs.Endings.{returned, hasFailed};
+ghost use Rattle.access.specs.Endings.{returned};
 ghost use Rattle.access.specs.declared.need.Need.the-variants as need;
 ghost use Rattle.block.specs.Bytes32.{blockSize};
 ghost use Rattle.slave.specs.declared.stage.Stage.the-variants.{Ended};
 ghost use Rattle.slave.specs.declared.state.Progress.{Progress};
-ghost use Rattle.slave.specs.declared.state.Setting.{Setting};
 ghost use Rattle.slave.specs.Machine.{to, saves, fails, endsWith};
-ghost use Rattle.slave.specs.Fits.{returns};
 ghost use Rattle.asked.specs.Asked.{Asks};
-ghost use Rattle.slave_step.specs.Held.{blockAt, kept, Puts, Moves, GoesOpen};
+ghost use Rattle.slave_step.specs.Held.{kept, Puts, Goes};
 use crate::put;
 use crate::stage;
+use access::Ending;
 use access::Failure;
 use access::ending;
+use images::end_image;
 use registers::Register;
 
 // An error: the abort begins. (The Rust's `OnDrop::new(Self::abort_slave_transfer)`.)
 pub fn fails(block: &mut [u8], failure: Failure) -> u64
     requires { ⌜ length (now block) ≡ blockSize ⌝ }
-    ensures { λ r. ⌜ GoesOpen (now (block .entry)) (now (block .exit)) r (fails failure) ⌝ }
+    ensures { λ r. ⌜ Goes (now (block .entry)) (now (block .exit)) r (fails failure) ⌝ }
 {
-    let error = failure.error;
-    block[put::ERROR] = ending::error_number(error);
+    end_image::put(block, Ending::Failed(failure));
     put::to(block, stage::ABORT, 0, stage::DISABLE_READ);
     asked::read(Register::Ctlr2)
 }
@@ -44,29 +42,20 @@ pub fn modifies(block: &mut [u8], phase: u8, old: u16, register: Register, new: 
 // The call ends and returns this value.
 pub fn returns(block: &mut [u8], value: u16) -> u64
     requires { ⌜ length (now block) ≡ blockSize ⌝ }
-    ensures { λ r. ⌜ GoesOpen (now (block .entry)) (now (block .exit)) r (λ (d : Progress). to Ended (endsWith (returned value) d)) ⌝ }
+    ensures { λ r. ⌜ Goes (now (block .entry)) (now (block .exit)) r (λ (d : Progress). to Ended (endsWith (returned value) d)) ⌝ }
 {
-    put::returns(block, value);
+    let end = ending::returned(value);
+    end_image::put(block, end);
     put::to(block, stage::ENDED, 0, 0);
-    asked::returned(value)
+    asked::end(end)
 }
 
-// The call ends, and what it returns is in the block.
+// The call ends, and how is in the block.
 pub fn ends(block: &mut [u8]) -> u64
     requires { ⌜ length (now block) ≡ blockSize ⌝ }
-    ensures { λ r. ⌜ ((g : Setting) (d : Progress) (n w p : ℕ) → returns g d ≡ true → now (block .entry) ≡ blockAt g d n w p → Moves g (to Ended d) (now (block .exit)) r) ⌝ }
+    ensures { λ r. ⌜ Goes (now (block .entry)) (now (block .exit)) r (to Ended) ⌝ }
 {
-    let value = put::word_at(block, put::VALUE);
+    let end = asked::ended(block);
     put::to(block, stage::ENDED, 0, 0);
-    asked::returned(value)
-}
-
-// The abort is done: the call ends with the error that it met.
-pub fn aborted(block: &mut [u8]) -> u64
-    requires { ⌜ length (now block) ≡ blockSize ⌝ }
-    ensures { λ r. ⌜ ((g : Setting) (d : Progress) (n w p : ℕ) → hasFailed (d .ending) ≡ true → now (block .entry) ≡ blockAt g d n w p → Moves g (to Ended d) (now (block .exit)) r) ⌝ }
-{
-    let error = block[put::ERROR];
-    put::to(block, stage::ENDED, 0, 0);
-    asked::failed(error)
+    end
 }

@@ -9,6 +9,8 @@ ghost use Rattle.slave_step.specs.Held.{Group};
 use crate::go;
 use crate::put;
 use crate::stage;
+use block::at;
+use block::bytes32;
 use images::numbers;
 use registers::Register;
 use registers::bits;
@@ -98,12 +100,12 @@ pub fn decode_slave_address(block: &mut [u8], entry: u8, what: u8, phase: u8, an
             asked::read(Register::Oaddr1)
         }
         stage::MATCH_SECOND => {
-            let star2 = put::word_at(block, put::WORD);
+            let star2 = bytes32::word_at(block, at::WORD);
             let address = word::field_of(answer, fields::ADD2);
             go::returns(block, commanded(star2, address))
         }
         _ => {
-            let star2 = put::word_at(block, put::WORD);
+            let star2 = bytes32::word_at(block, at::WORD);
             let address = own_address(answer);
             go::returns(block, commanded(star2, address))
         }

@@ -10,15 +10,18 @@ ghost use Rattle.slave.specs.declared.stage.Stage.the-variants.{ClearStopf};
 ghost use Rattle.slave.specs.declared.state.Progress.{Progress};
 ghost use Rattle.slave.specs.declared.state.Setting.{Setting};
 ghost use Rattle.slave.specs.Machine.{to, endsWith, slaveHandleErrors, blockingListen, blockingRespondToWrite, blockingRespondToRead, leftover, takenOff, checkErrorsAndTime};
-ghost use Rattle.access.specs.Endings.{done, returned};
-ghost use Rattle.slave_step.specs.Held.{blockAt, Moves, Goes, GoesOpen, GoesCounting, Group, GroupCounting};
+ghost use Rattle.access.specs.Endings.{returned};
+ghost use Rattle.slave_step.specs.Held.{blockAt, Moves, Goes, GoesCounting, Group, GroupCounting};
 use crate::go;
 use crate::put;
 use crate::stage;
 use access::Error;
 use access::ending;
 use access::next;
+use block::at;
+use block::bytes32;
 use errors::Checked;
+use images::end_image;
 use images::numbers;
 use registers::Register;
 use registers::bits;
@@ -54,9 +57,9 @@ fn blocking_listen(block: &mut [u8], status: u16) -> u64
 // What is returned is known, and STOPF is to be cleared.
 fn stops(block: &mut [u8], value: u16) -> u64
     requires { ⌜ length (now block) ≡ blockSize ⌝ }
-    ensures { λ r. ⌜ GoesOpen (now (block .entry)) (now (block .exit)) r (λ (d : Progress). to (ClearStopf stopf.End clearing.Status) (endsWith (returned value) d)) ⌝ }
+    ensures { λ r. ⌜ Goes (now (block .entry)) (now (block .exit)) r (λ (d : Progress). to (ClearStopf stopf.End clearing.Status) (endsWith (returned value) d)) ⌝ }
 {
-    put::returns(block, value);
+    end_image::put(block, ending::returned(value));
     put::to(
         block,
         stage::CLEAR_STOPF,
@@ -121,7 +124,7 @@ fn blocking_respond_to_read(block: &mut [u8], size: u16, count: u32, status: u16
     ensures { λ r. ⌜ GoesCounting size count (now (block .entry)) (now (block .exit)) r (λ (d : Progress). blockingRespondToRead size d status) ⌝ }
 {
     if word::bit(status, bits::AF) {
-        put::returns(block, left_over(size, count));
+        end_image::put(block, ending::returned(left_over(size, count)));
         put::to(block, stage::CLEAR_AF, 0, stage::HALF_READ);
         return asked::read(Register::Star1);
     }
@@ -164,10 +167,10 @@ pub fn polls(
 // The flags of the saved word are cleared: the first decides, and AF decides nothing.
 fn judged(block: &mut [u8]) -> u64
     requires { ⌜ length (now block) ≡ blockSize ⌝ }
-    ensures { λ r. ⌜ ((g : Setting) (d : Progress) (p : ℕ) → d .ending ≡ done → now (block .entry) ≡ blockAt g d 8 0 p → Moves g (checkErrorsAndTime (g .chip) errors.Clear d 0) (now (block .exit)) r) ⌝ }
+    ensures { λ r. ⌜ ((g : Setting) (d : Progress) (p : ℕ) → now (block .entry) ≡ blockAt g d 8 0 p → Moves g (checkErrorsAndTime (g .chip) errors.Clear d 0) (now (block .exit)) r) ⌝ }
 {
-    let status = put::word_at(block, put::WORD);
-    let chip = numbers::chip_of(block[put::CHIP]);
+    let status = bytes32::word_at(block, at::WORD);
+    let chip = numbers::chip_of(block[at::CHIP]);
     match errors::error_of(status, chip, false) {
         Checked::Fine => {
             put::phase(block, stage::ERRORS_CLOCK);

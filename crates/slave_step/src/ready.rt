@@ -2,13 +2,18 @@
 ghost use mathlib.Core.Path.{_≡_};
 ghost use lib.Dec.{leb};
 ghost use Rattle.registers.specs.declared.chip.Chip.{Chip};
-ghost use Rattle.access.specs.Endings.{endingOf, isDone, hasFailed};
+ghost use lib.ListN.{length};
+ghost use Rattle.block.specs.Bytes32.{blockSize};
+ghost use Rattle.images.specs.EndImage.{endingAt};
 ghost use Rattle.images.specs.SlaveImage.{kindOf};
 ghost use Rattle.slave.specs.declared.state.Progress.{Progress};
 ghost use Rattle.slave.specs.Fits.{limit, canReturn, returnsIn};
 ghost use Rattle.slave_step.specs.Held.{settingAt, closing, readyAt};
 use crate::poll;
 use crate::stage;
+use block::at;
+use block::bytes32;
+use images::end_image;
 use images::numbers;
 
 // The count is at most the buffer's length, or one more than the data's.
@@ -37,24 +42,11 @@ fn can_return(entry: u8, size: u16, count: u32, value: u16) -> bool
 }
 
 // What is to be returned is known.
-fn returns(entry: u8, size: u16, count: u32, error: u8, value: u16) -> bool
-    ensures { λ r. ⌜ r ≡ returnsIn (kindOf entry) size count (endingOf error value) ⌝ }
+fn returns(block: &[u8], entry: u8, size: u16, count: u32) -> bool
+    requires { ⌜ length (now block) ≡ blockSize ⌝ }
+    ensures { λ r. ⌜ r ≡ returnsIn (kindOf entry) size count (endingAt (now (block .entry))) ⌝ }
 {
-    (error == 0) & can_return(entry, size, count, value)
-}
-
-// No end is known.
-fn is_done(error: u8, value: u16) -> bool
-    ensures { λ r. ⌜ r ≡ isDone (endingOf error value) ⌝ }
-{
-    (error == 0) & (value == 0)
-}
-
-// An error was met, 1 to 6.
-fn has_failed(error: u8, value: u16) -> bool
-    ensures { λ r. ⌜ r ≡ hasFailed (endingOf error value) ⌝ }
-{
-    (0 < error) & (error <= 6)
+    (block[at::ERROR] == 0) & can_return(entry, size, count, bytes32::word_at(block, at::VALUE))
 }
 
 // The stages in which what is to be returned is known: STOPF is cleared at the end of a response, or AF.
@@ -65,22 +57,15 @@ fn is_closing(group: u8, what: u8) -> bool
 }
 
 // The count is one that the call can have, and the ending one that the stages of the group have.
-pub fn is_ready(
-    entry: u8,
-    size: u16,
-    count: u32,
-    group: u8,
-    what: u8,
-    error: u8,
-    value: u16,
-) -> bool
-    ensures { λ r. ⌜ ((chip : Chip) (d : Progress) → d .count ≡ count → d .ending ≡ endingOf error value → r ≡ readyAt (settingAt chip entry size) d group what) ⌝ }
+pub fn is_ready(block: &[u8], entry: u8, size: u16, count: u32, group: u8, what: u8) -> bool
+    requires { ⌜ length (now block) ≡ blockSize ⌝ }
+    ensures { λ r. ⌜ ((chip : Chip) (d : Progress) → d .count ≡ count → d .ending ≡ endingAt (now (block .entry)) → r ≡ readyAt (settingAt chip entry size) d group what) ⌝ }
 {
     if is_closing(group, what) {
-        return counts(entry, size, count) & returns(entry, size, count, error, value);
+        return counts(entry, size, count) & returns(block, entry, size, count);
     }
     if group == stage::ABORT {
-        return counts(entry, size, count) & has_failed(error, value);
+        return counts(entry, size, count) & end_image::has_failed(block);
     }
-    counts(entry, size, count) & is_done(error, value)
+    counts(entry, size, count) & end_image::is_done(block)
 }

@@ -13,6 +13,8 @@ use crate::ready;
 use crate::receive;
 use crate::send;
 use crate::stage;
+use block::at;
+use images::end_image;
 
 // By the group of its stage. A call that has ended takes no step, and no stage is of another group.
 pub fn step_at(
@@ -53,14 +55,11 @@ pub fn step(block: &mut [u8], entry: u8, size: usize, answer: u16) -> u64
     }
     let lent = size as u16;
     let count = put::count_at(block);
-    let group = block[put::GROUP];
-    let what = block[put::WHAT];
-    let phase = block[put::PHASE];
-    let error = block[put::ERROR];
-    let value = put::word_at(block, put::VALUE);
+    let group = block[at::GROUP];
+    let what = block[at::WHAT];
+    let phase = block[at::PHASE];
     if !(held::is_call(block, entry)
-        & (((error == 0) | (value == 0))
-            & ready::is_ready(entry, lent, count, group, what, error, value))) {
+        & (end_image::is_plain(block) & ready::is_ready(block, entry, lent, count, group, what))) {
         return asked::refused();
     }
     step_at(block, entry, lent, count, group, what, phase, answer)

@@ -1,5 +1,3 @@
-pub mod Bytes
-pub mod Compared
 pub mod MasterStageLaws
 pub mod MasterStageRanges
 pub mod SlaveStageLaws

@@ -6,8 +6,8 @@ use mathlib.Core.Bool.{false}
 use lib.Dec.{eqb, ltb}
 use Rattle.master.specs.declared.stage.Stage.the-variants as stage
 use Rattle.stage_numbers.specs.MasterStage.{fallNumber, fallOf, fallStageNumber, fallStageOf, launchStageNumber, launchStageOf, flagNumber, flagOf, waitStageNumber, waitStageOf, addressStageNumber, addressStageOf, recvStageNumber, recvStageOf, readStageNumber, readStageOf, stopForNumber, stopForOf, halfNumber, halfOf, abortStageNumber, abortStageOf, stageOf, isStage}
-use Rattle.stage_numbers.proofs.Bytes.{count}
-use Rattle.stage_numbers.proofs.Compared.{turned}
+use Rattle.access.proofs.Bytes.{count}
+use Rattle.access.proofs.Compared.{turned}
 
 pub fall-range : (n : ℕ) → n < 256 → eqb (fallNumber (fallOf n)) n ≡ ltb n 2
 fall-range = count fallNumber fallOf 2 refl

@@ -6,8 +6,8 @@ use mathlib.Core.Bool.{false}
 use lib.Dec.{eqb, ltb}
 use Rattle.slave.specs.declared.stage.Stage.the-variants as stage
 use Rattle.stage_numbers.specs.SlaveStage.{stopfForNumber, stopfForOf, stopfStageNumber, stopfStageOf, staleStageNumber, staleStageOf, armStageNumber, armStageOf, matchStageNumber, matchStageOf, halfNumber, halfOf, errorStageNumber, errorStageOf, abortStageNumber, abortStageOf, stageOf, isStage}
-use Rattle.stage_numbers.proofs.Bytes.{count}
-use Rattle.stage_numbers.proofs.Compared.{turned}
+use Rattle.access.proofs.Bytes.{count}
+use Rattle.access.proofs.Compared.{turned}
 
 pub stopf-for-range : (n : ℕ) → n < 256 → eqb (stopfForNumber (stopfForOf n)) n ≡ ltb n 2
 stopf-for-range = count stopfForNumber stopfForOf 2 refl

@@ -15,7 +15,7 @@ need-of-spec =
     (λ c κs. search needs)
     (λ c κs. search needs)
     (λ c κs. search needs)
-    (λ c. rw (c .before .match .keys1, c .ending-of .ensures))
+    (λ c. rw (c .before .match .keys1, c .ending-in .ensures))
     (λ c. rw (c .before .match .keys2, c .of-number .ensures))
     (λ c. rw (c .before .match .keys3, c .of-number2 .ensures))
     (λ c. rw (c .match .keys4))

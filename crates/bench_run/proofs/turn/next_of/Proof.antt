@@ -14,7 +14,7 @@ next-of-spec =
     (λ c κs. search needs)
     (λ c κs. search needs)
     (λ c κs. search needs)
-    (λ c. rw (c .before .match .keys1, c .ending-of .ensures))
+    (λ c. rw (c .before .match .keys1, c .ending-in .ensures))
     (λ c. rw (c .before .match .keys2, c .of-number .ensures))
     (λ c. rw (c .before .match .keys3, c .of-number2 .ensures))
     (λ c. simp (ne-eqb _ _ (c .match .rest .1), ne-eqb _ _ (c .match .rest .0 .1), ne-eqb _ _ (c .match .rest .0 .0 .1))))

@@ -9,7 +9,7 @@ use Rattle.master_call.proofs.held.is_call_of.Tie as tie
 
 returns : tie.Need-returns
 unfolding isCallOf isCall fieldsOf
-returns c = rw (c .before .before .before .before .before .before .before .before .is-kind .ensures, c .before .before .before .before .before .before .is-chip .ensures, c .before .before .before .before .is-flag .ensures, c .before .before .before .unused-empty .ensures, c .is-ending .ensures, c .before .word-at .ensures)
+returns c = rw (c .before .before .before .before .before .before .is-kind .ensures, c .before .before .before .before .is-chip .ensures, c .before .before .is-flag .ensures, c .before .unused-empty .ensures, c .is-ending .ensures)
 
 pub is-call-of-spec : {M : Type 1} → statement M
 is-call-of-spec =
@@ -23,8 +23,6 @@ is-call-of-spec =
     (λ c κs. search needs)
     (λ c. search needs)
     (λ c κs. search needs)
-    (λ c κs. search needs)
-    (λ c. search needs)
     (λ c κs. search needs)
     (λ c κs. search needs)
     returns)

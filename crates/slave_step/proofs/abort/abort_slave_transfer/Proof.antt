@@ -25,13 +25,13 @@ returns-4 : tie.Need-returns-4
 returns-4 c = λ entry size chip d s. let fit = not-false _ (c .before .before .before .before .before .before .if1 .left) in takes (abort-decides chip entry size d (c .before .before .before .before .before .before .before .before .args .what) (c .before .before .before .before .before .before .before .before .args .phase) s (search needs) ∙ fit) (rw (c .before .before .before .before .before .match .keys2) (moves (c .before .before .before .phase .ensures .block (settingAt chip entry size) d 9 _ (c .before .before .before .before .before .before .before .before .args .phase) (told (settingAt chip entry size) d 9 (c .before .before .before .before .before .before .before .before .args .phase) (zero-told (c .before .before .before .before .before .before .before .before .args .what) _ fit) (s .held))) (c .read .ensures)))
 
 returns-5 : tie.Need-returns-5
-returns-5 c = λ entry size chip d s. let fit = not-false _ (c .before .before .before .before .before .before .before .before .if1 .left) in takes (abort-decides chip entry size d (c .before .before .before .before .before .before .before .before .before .before .args .what) (c .before .before .before .before .before .before .before .before .before .before .args .phase) s (search needs) ∙ fit) (rw (c .before .before .before .before .before .before .before .match .keys3) (second _ (both-is (c .before .before .before .before .before .before .bit .ensures) (c .before .before .before .before .before .bit2 .ensures) (c .before .before .before .before .if2 .left)) (c .before .before .aborted .ensures (settingAt chip entry size) d 9 (c .before .before .before .before .before .before .before .before .before .before .args .what) (c .before .before .before .before .before .before .before .before .before .before .args .phase) (s .ending) (s .held))))
+returns-5 c = λ entry size chip d s. let fit = not-false _ (c .before .before .before .before .before .before .before .before .if1 .left) in takes (abort-decides chip entry size d (c .before .before .before .before .before .before .before .before .before .before .args .what) (c .before .before .before .before .before .before .before .before .before .before .args .phase) s (search needs) ∙ fit) (rw (c .before .before .before .before .before .before .before .match .keys3) (second _ (both-is (c .before .before .before .before .before .before .bit .ensures) (c .before .before .before .before .before .bit2 .ensures) (c .before .before .before .before .if2 .left)) (c .before .before .ends .ensures (settingAt chip entry size) d 9 (c .before .before .before .before .before .before .before .before .before .before .args .what) (c .before .before .before .before .before .before .before .before .before .before .args .phase) (s .held))))
 
 returns-6 : tie.Need-returns-6
 returns-6 c = λ entry size chip d s. let fit = not-false _ (c .before .before .before .before .before .before .if1 .left) in takes (abort-decides chip entry size d (c .before .before .before .before .before .before .before .before .args .what) (c .before .before .before .before .before .before .before .before .args .phase) s (search needs) ∙ fit) (rw (c .before .before .before .before .before .match .keys4) (moves (c .before .before .modifies2 .ensures .0 .block (settingAt chip entry size) d 9 _ (c .before .before .before .before .before .before .before .before .args .phase) (told (settingAt chip entry size) d 9 (c .before .before .before .before .before .before .before .before .args .phase) (zero-told (c .before .before .before .before .before .before .before .before .args .what) _ fit) (s .held))) (asks (ap (need.Write Ctlr1) (c .before .before .before .before .set-bit .ensures)) (c .before .before .modifies2 .ensures .1))))
 
 returns-7 : tie.Need-returns-7
-returns-7 c = λ entry size chip d s. let fit = not-false _ (c .before .before .before .before .before .if1 .left) in takes (abort-decides chip entry size d (c .before .before .before .before .before .before .before .args .what) (c .before .before .before .before .before .before .before .args .phase) s (search needs) ∙ fit) (rw (stop-write-told (c .before .before .before .before .before .before .before .args .phase) (c .before .before .before .before .match .rest .0 .0 .0 .1) (c .before .before .before .before .match .rest .0 .0 .1) (c .before .before .before .before .match .rest .0 .1) (c .before .before .before .before .match .rest .1)) (c .before .before .aborted2 .ensures (settingAt chip entry size) d 9 (c .before .before .before .before .before .before .before .args .what) (c .before .before .before .before .before .before .before .args .phase) (s .ending) (s .held)))
+returns-7 c = λ entry size chip d s. let fit = not-false _ (c .before .before .before .before .before .if1 .left) in takes (abort-decides chip entry size d (c .before .before .before .before .before .before .before .args .what) (c .before .before .before .before .before .before .before .args .phase) s (search needs) ∙ fit) (rw (stop-write-told (c .before .before .before .before .before .before .before .args .phase) (c .before .before .before .before .match .rest .0 .0 .0 .1) (c .before .before .before .before .match .rest .0 .0 .1) (c .before .before .before .before .match .rest .0 .1) (c .before .before .before .before .match .rest .1)) (c .before .before .ends2 .ensures (settingAt chip entry size) d 9 (c .before .before .before .before .before .before .before .args .what) (c .before .before .before .before .before .before .before .args .phase) (s .held)))
 
 pub abort-slave-transfer-spec : {M : Type 1} → statement M
 abort-slave-transfer-spec =

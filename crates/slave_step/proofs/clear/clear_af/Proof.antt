@@ -18,7 +18,7 @@ returns-2 : tie.Need-returns-2
 returns-2 c = λ size chip d s. let fit = not-false _ (c .before .before .before .before .before .before .if1 .left) in takes (af-decides chip (c .before .before .before .before .before .before .before .before .args .entry) size d (c .before .before .before .before .before .before .before .before .args .what) (c .before .before .before .before .before .before .before .before .args .phase) s (search needs) ∙ fit) (rw (c .before .before .before .before .before .match .keys1) (moves (c .before .before .modifies .ensures .0 .block (settingAt chip (c .before .before .before .before .before .before .before .before .args .entry) size) d 7 _ (c .before .before .before .before .before .before .before .before .args .phase) (told (settingAt chip (c .before .before .before .before .before .before .before .before .args .entry) size) d 7 (c .before .before .before .before .before .before .before .before .args .phase) (zero-told (c .before .before .before .before .before .before .before .before .args .what) _ fit) (s .held))) (asks (ap (need.Write Star1) (c .before .before .before .clear-bit .ensures)) (c .before .before .modifies .ensures .1))))
 
 returns-3 : tie.Need-returns-3
-returns-3 c = λ size chip d s. let fit = not-false _ (c .before .before .before .before .before .if1 .left) in takes (af-decides chip (c .before .before .before .before .before .before .before .args .entry) size d (c .before .before .before .before .before .before .before .args .what) (c .before .before .before .before .before .before .before .args .phase) s (search needs) ∙ fit) (rw (af-write-told (c .before .before .before .before .before .before .before .args .phase) (c .before .before .before .before .match .rest .1)) (c .before .before .ends .ensures (settingAt chip (c .before .before .before .before .before .before .before .args .entry) size) d 7 (c .before .before .before .before .before .before .before .args .what) (c .before .before .before .before .before .before .before .args .phase) (s .ending) (s .held)))
+returns-3 c = λ size chip d s. let fit = not-false _ (c .before .before .before .before .before .if1 .left) in takes (af-decides chip (c .before .before .before .before .before .before .before .args .entry) size d (c .before .before .before .before .before .before .before .args .what) (c .before .before .before .before .before .before .before .args .phase) s (search needs) ∙ fit) (rw (af-write-told (c .before .before .before .before .before .before .before .args .phase) (c .before .before .before .before .match .rest .1)) (c .before .before .ends .ensures (settingAt chip (c .before .before .before .before .before .before .before .args .entry) size) d 7 (c .before .before .before .before .before .before .before .args .what) (c .before .before .before .before .before .before .before .args .phase) (s .held)))
 
 pub clear-af-spec : {M : Type 1} → statement M
 clear-af-spec =

@@ -22,7 +22,7 @@ returns-4 : tie.Need-returns-4
 returns-4 c = λ size chip d s. let fit = not-false _ (c .before .before .before .before .before .if1 .left) in takes (stopf-decides chip (c .before .before .before .before .before .before .before .args .entry) size d (c .before .before .before .before .before .before .before .args .what) (c .before .before .before .before .before .before .before .args .phase) s (search needs) (search needs) ∙ fit) (rw (c .before .before .before .before .match .keys2) (moves (c .before .before .modifies .ensures .0 .block (settingAt chip (c .before .before .before .before .before .before .before .args .entry) size) d 0 _ (c .before .before .before .before .before .before .before .args .phase) (told (settingAt chip (c .before .before .before .before .before .before .before .args .entry) size) d 0 (c .before .before .before .before .before .before .before .args .phase) (stopf-whole (c .before .before .before .before .before .before .before .args .what) (c .before .before .before .before .before .before .before .args .phase) (c .before .before .before .before .before .before .before .args .entry) fit) (s .held))) (c .before .before .modifies .ensures .1)))
 
 returns-5 : tie.Need-returns-5
-returns-5 c = λ size chip d s. let fit = not-false _ (c .before .before .before .before .before .before .if1 .left) in takes (stopf-decides chip (c .before .before .before .before .before .before .before .before .args .entry) size d (c .before .before .before .before .before .before .before .before .args .what) (c .before .before .before .before .before .before .before .before .args .phase) s (search needs) (search needs) ∙ fit) (rw (stopf-write-told (c .before .before .before .before .before .before .before .before .args .phase) (c .before .before .before .before .before .match .rest .0 .1) (c .before .before .before .before .before .match .rest .1), for-end-told (c .before .before .before .before .before .before .before .before .args .what) (c .before .before .before .before .if2 .left)) (c .before .before .ends .ensures (settingAt chip (c .before .before .before .before .before .before .before .before .args .entry) size) d 0 (c .before .before .before .before .before .before .before .before .args .what) (c .before .before .before .before .before .before .before .before .args .phase) (closing-told (settingAt chip (c .before .before .before .before .before .before .before .before .args .entry) size) d (stopf-one (c .before .before .before .before .before .before .before .before .args .what) (c .before .before .before .before .before .before .before .before .args .phase) (c .before .before .before .before .before .before .before .before .args .entry) fit (c .before .before .before .before .if2 .left)) (s .ending)) (s .held)))
+returns-5 c = λ size chip d s. let fit = not-false _ (c .before .before .before .before .before .before .if1 .left) in takes (stopf-decides chip (c .before .before .before .before .before .before .before .before .args .entry) size d (c .before .before .before .before .before .before .before .before .args .what) (c .before .before .before .before .before .before .before .before .args .phase) s (search needs) (search needs) ∙ fit) (rw (stopf-write-told (c .before .before .before .before .before .before .before .before .args .phase) (c .before .before .before .before .before .match .rest .0 .1) (c .before .before .before .before .before .match .rest .1), for-end-told (c .before .before .before .before .before .before .before .before .args .what) (c .before .before .before .before .if2 .left)) (c .before .before .ends .ensures (settingAt chip (c .before .before .before .before .before .before .before .before .args .entry) size) d 0 (c .before .before .before .before .before .before .before .before .args .what) (c .before .before .before .before .before .before .before .before .args .phase) (s .held)))
 
 pub clear-stopf-spec : {M : Type 1} → statement M
 clear-stopf-spec =

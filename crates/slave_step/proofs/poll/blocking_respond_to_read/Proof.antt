@@ -3,9 +3,11 @@
 use borrow.Author.Needs.{needs}
 use mathlib.Core.Path.{ap, sym, _∙_}
 use Prim.Native.Nat.{ℕ}
+use Rattle.access.specs.declared.ending.Ending.{Ending}
 use Rattle.access.specs.Endings.{returned}
 use Rattle.slave.specs.Machine.{endsWith, leftover, takenOff}
-use Rattle.slave_step.proofs.Laws.{moves, first, second, asks, goes}
+use Rattle.slave.specs.declared.state.Setting.{Setting}
+use Rattle.slave_step.proofs.Laws.{moves, first, second, asks, goes, ends-at}
 use Rattle.slave.specs.Machine.{to}
 use Rattle.slave.specs.declared.stage.Stage.the-variants.{ClearStopf, ClearAf, Ended}
 use Rattle.access.specs.declared.need.Need.the-variants as need
@@ -16,24 +18,32 @@ use Rattle.slave_step.proofs.poll.blocking_respond_to_read.Statement.{s
 use Rattle.slave_step.proofs.poll.blocking_respond_to_read.Tie as tie
 
 returns : tie.Need-returns
-returns c = λ chip x d n w p z k e. first _ (sym (c .before .before .before .before .before .before .before .before .before .before .before .bit .ensures) ∙ c .before .before .before .before .before .before .before .before .before .before .if1 .taken) (goes (ap (λ (v : ℕ). to (ClearAf half.Read) (endsWith (returned v) d)) (c .before .before .before .before .before .before .before .before .left-over .ensures ∙ ap (leftover (c .before .before .before .before .before .before .before .before .before .before .before .before .before .args .size)) k)) (moves (c .before .before .before .to .ensures .block (record { chip = chip; kind = x; size = c .before .before .before .before .before .before .before .before .before .before .before .before .before .args .size }) (endsWith (returned (c .before .before .before .before .before .before .before .before .left-over .result)) d) n w p (c .before .before .before .before .before .before .before .returns .ensures .1 (record { chip = chip; kind = x; size = c .before .before .before .before .before .before .before .before .before .before .before .before .before .args .size }) d n w p z e)) (c .read .ensures)))
+returns c =
+    λ chip x d n w p k e.
+    let g : Setting = record { chip = chip; kind = x; size = c .before .before .before .before .before .before .before .before .before .before .before .before .before .before .args .size } in
+    let y = c .before .before .before .before .before .before .before .before .returned .result in
+    let is = c .before .before .before .before .before .before .before .before .returned .ensures ∙ ap returned (c .before .before .before .before .before .before .before .before .before .left-over .ensures ∙ ap (leftover (c .before .before .before .before .before .before .before .before .before .before .before .before .before .before .args .size)) k) in
+    first _ (sym (c .before .before .before .before .before .before .before .before .before .before .before .before .bit .ensures) ∙ c .before .before .before .before .before .before .before .before .before .before .before .if1 .taken)
+    (goes (ap (λ (z : Ending). to (ClearAf half.Read) (endsWith z d)) is)
+    (moves (c .before .before .before .to .ensures .block g (endsWith y d) n w p (ends-at g d n w p e y (c .before .before .before .before .before .before .before .put .ensures .1))) (c .read .ensures)))
 
 returns-2 : tie.Need-returns-2
-returns-2 c = λ chip x d n w p z k e. second _ (sym (c .before .before .before .before .before .before .before .before .before .bit .ensures) ∙ c .before .before .before .before .before .before .before .before .if1 .left) (first _ (sym (c .before .before .before .before .before .before .before .bit2 .ensures) ∙ c .before .before .before .before .before .before .if2 .taken) (goes (ap (λ (v : ℕ). to (ClearStopf stopf.End clearing.Status) (endsWith (returned v) d)) (c .before .before .before .left-over2 .ensures ∙ ap (leftover (c .before .before .before .before .before .before .before .before .before .before .before .args .size)) (c .before .before .before .before .taken-off .ensures ∙ ap (takenOff (c .before .before .before .before .before .before .before .before .before .before .before .args .status)) k))) (c .before .before .stops .ensures (record { chip = chip; kind = x; size = c .before .before .before .before .before .before .before .before .before .before .before .args .size }) d n w p z e)))
+returns-2 c = λ chip x d n w p k e. second _ (sym (c .before .before .before .before .before .before .before .before .before .bit .ensures) ∙ c .before .before .before .before .before .before .before .before .if1 .left) (first _ (sym (c .before .before .before .before .before .before .before .bit2 .ensures) ∙ c .before .before .before .before .before .before .if2 .taken) (goes (ap (λ (v : ℕ). to (ClearStopf stopf.End clearing.Status) (endsWith (returned v) d)) (c .before .before .before .left-over2 .ensures ∙ ap (leftover (c .before .before .before .before .before .before .before .before .before .before .before .args .size)) (c .before .before .before .before .taken-off .ensures ∙ ap (takenOff (c .before .before .before .before .before .before .before .before .before .before .before .args .status)) k))) (c .before .before .stops .ensures (record { chip = chip; kind = x; size = c .before .before .before .before .before .before .before .before .before .before .before .args .size }) d n w p e)))
 
 returns-3 : tie.Need-returns-3
-returns-3 c = λ chip x d n w p z k e. second _ (sym (c .before .before .before .before .before .before .before .before .before .before .before .bit .ensures) ∙ c .before .before .before .before .before .before .before .before .before .before .if1 .left) (second _ (sym (c .before .before .before .before .before .before .before .before .before .bit2 .ensures) ∙ c .before .before .before .before .before .before .before .before .if2 .left) (first _ (sym (c .before .before .before .before .before .before .before .bit3 .ensures) ∙ c .before .before .before .before .before .before .if3 .taken) (goes (ap (λ (v : ℕ). to Ended (endsWith (returned v) d)) (c .before .before .before .left-over3 .ensures ∙ ap (leftover (c .before .before .before .before .before .before .before .before .before .before .before .before .before .args .size)) (c .before .before .before .before .taken-off2 .ensures ∙ ap (takenOff (c .before .before .before .before .before .before .before .before .before .before .before .before .before .args .status)) k))) (c .before .before .returns2 .ensures (record { chip = chip; kind = x; size = c .before .before .before .before .before .before .before .before .before .before .before .before .before .args .size }) d n w p z e))))
+returns-3 c = λ chip x d n w p k e. second _ (sym (c .before .before .before .before .before .before .before .before .before .before .before .bit .ensures) ∙ c .before .before .before .before .before .before .before .before .before .before .if1 .left) (second _ (sym (c .before .before .before .before .before .before .before .before .before .bit2 .ensures) ∙ c .before .before .before .before .before .before .before .before .if2 .left) (first _ (sym (c .before .before .before .before .before .before .before .bit3 .ensures) ∙ c .before .before .before .before .before .before .if3 .taken) (goes (ap (λ (v : ℕ). to Ended (endsWith (returned v) d)) (c .before .before .before .left-over3 .ensures ∙ ap (leftover (c .before .before .before .before .before .before .before .before .before .before .before .before .before .args .size)) (c .before .before .before .before .taken-off2 .ensures ∙ ap (takenOff (c .before .before .before .before .before .before .before .before .before .before .before .before .before .args .status)) k))) (c .before .before .returns .ensures (record { chip = chip; kind = x; size = c .before .before .before .before .before .before .before .before .before .before .before .before .before .args .size }) d n w p e))))
 
 returns-4 : tie.Need-returns-4
-returns-4 c = λ chip x d n w p z k e. second _ (sym (c .before .before .before .before .before .before .before .before .before .before .before .before .bit .ensures) ∙ c .before .before .before .before .before .before .before .before .before .before .before .if1 .left) (second _ (sym (c .before .before .before .before .before .before .before .before .before .before .bit2 .ensures) ∙ c .before .before .before .before .before .before .before .before .before .if2 .left) (second _ (sym (c .before .before .before .before .before .before .before .before .bit3 .ensures) ∙ c .before .before .before .before .before .before .before .if3 .left) (first _ (sym (c .before .before .before .before .before .before .bit4 .ensures) ∙ c .before .before .before .before .before .if4 .taken) (moves (c .before .before .before .to2 .ensures .block (record { chip = chip; kind = x; size = c .before .before .before .before .before .before .before .before .before .before .before .before .before .before .args .size }) d n w p e) (asks (ap need.Send k) (c .send-at .ensures))))))
+returns-4 c = λ chip x d n w p k e. second _ (sym (c .before .before .before .before .before .before .before .before .before .before .before .before .bit .ensures) ∙ c .before .before .before .before .before .before .before .before .before .before .before .if1 .left) (second _ (sym (c .before .before .before .before .before .before .before .before .before .before .bit2 .ensures) ∙ c .before .before .before .before .before .before .before .before .before .if2 .left) (second _ (sym (c .before .before .before .before .before .before .before .before .bit3 .ensures) ∙ c .before .before .before .before .before .before .before .if3 .left) (first _ (sym (c .before .before .before .before .before .before .bit4 .ensures) ∙ c .before .before .before .before .before .if4 .taken) (moves (c .before .before .before .to2 .ensures .block (record { chip = chip; kind = x; size = c .before .before .before .before .before .before .before .before .before .before .before .before .before .before .args .size }) d n w p e) (asks (ap need.Send k) (c .send-at .ensures))))))
 
 returns-5 : tie.Need-returns-5
-returns-5 c = λ chip x d n w p z k e. second _ (sym (c .before .before .before .before .before .before .before .before .before .before .before .bit .ensures) ∙ c .before .before .before .before .before .before .before .before .before .before .if1 .left) (second _ (sym (c .before .before .before .before .before .before .before .before .before .bit2 .ensures) ∙ c .before .before .before .before .before .before .before .before .if2 .left) (second _ (sym (c .before .before .before .before .before .before .before .bit3 .ensures) ∙ c .before .before .before .before .before .before .if3 .left) (second _ (sym (c .before .before .before .before .before .bit4 .ensures) ∙ c .before .before .before .before .if4 .left) (c .before .before .slave-handle-errors .ensures (record { chip = chip; kind = x; size = c .before .before .before .before .before .before .before .before .before .before .before .before .before .args .size }) d n w p e))))
+returns-5 c = λ chip x d n w p k e. second _ (sym (c .before .before .before .before .before .before .before .before .before .before .before .bit .ensures) ∙ c .before .before .before .before .before .before .before .before .before .before .if1 .left) (second _ (sym (c .before .before .before .before .before .before .before .before .before .bit2 .ensures) ∙ c .before .before .before .before .before .before .before .before .if2 .left) (second _ (sym (c .before .before .before .before .before .before .before .bit3 .ensures) ∙ c .before .before .before .before .before .before .if3 .left) (second _ (sym (c .before .before .before .before .before .bit4 .ensures) ∙ c .before .before .before .before .if4 .left) (c .before .before .slave-handle-errors .ensures (record { chip = chip; kind = x; size = c .before .before .before .before .before .before .before .before .before .before .before .before .before .args .size }) d n w p e))))
 
 pub blocking-respond-to-read-spec : {M : Type 1} → statement M
 blocking-respond-to-read-spec =
     tie.close
     (tie.spec
+    (λ c κs. search needs)
     (λ c κs. search needs)
     (λ c κs. search needs)
     (λ c κs. search needs)

@@ -15,10 +15,10 @@ use Rattle.slave_step.proofs.poll.judged.Statement.{statement}
 use Rattle.slave_step.proofs.poll.judged.Tie as tie
 
 returns : tie.Need-returns
-returns c = λ g d p z e. let status : c .before .before .before .before .before .before .before .before .before .before .word-at .result ≡ d .word = c .before .before .before .before .before .before .before .before .before .before .word-at .ensures ∙ ap (λ (b : List ℕ). wordAt b 16) e ∙ word-at g d 8 0 p in let chip : c .before .before .before .before .before .before .before .before .chip-of .result ≡ g .chip = c .before .before .before .before .before .before .before .before .chip-of .ensures ∙ ap (λ (b : List ℕ). chipOf (getD b 1 0)) e ∙ chip-at g d 8 0 p in let class = c .before .before .before .before .before .before .before .error-of .ensures ∙ ap (λ (x : Chip). errorOf x false (c .before .before .before .before .before .before .before .before .before .before .word-at .result)) chip ∙ ap (errorOf (g .chip) false) status in rw (sym class ∙ c .before .before .before .before .before .enum-told .given .1) (moves (c .before .before .before .phase .ensures .block g d 8 0 p e) (c .clock .ensures))
+returns c = λ g d p e. let status : c .before .before .before .before .before .before .before .before .before .before .word-at .result ≡ d .word = c .before .before .before .before .before .before .before .before .before .before .word-at .ensures ∙ ap (λ (b : List ℕ). wordAt b 16) e ∙ word-at g d 8 0 p in let chip : c .before .before .before .before .before .before .before .before .chip-of .result ≡ g .chip = c .before .before .before .before .before .before .before .before .chip-of .ensures ∙ ap (λ (b : List ℕ). chipOf (getD b 1 0)) e ∙ chip-at g d 8 0 p in let class = c .before .before .before .before .before .before .before .error-of .ensures ∙ ap (λ (x : Chip). errorOf x false (c .before .before .before .before .before .before .before .before .before .before .word-at .result)) chip ∙ ap (errorOf (g .chip) false) status in rw (sym class ∙ c .before .before .before .before .before .enum-told .given .1) (moves (c .before .before .before .phase .ensures .block g d 8 0 p e) (c .clock .ensures))
 
 returns-2 : tie.Need-returns-2
-returns-2 c = λ g d p z e. let status : c .before .before .before .before .before .before .before .before .before .before .word-at .result ≡ d .word = c .before .before .before .before .before .before .before .before .before .before .word-at .ensures ∙ ap (λ (b : List ℕ). wordAt b 16) e ∙ word-at g d 8 0 p in let chip : c .before .before .before .before .before .before .before .before .chip-of .result ≡ g .chip = c .before .before .before .before .before .before .before .before .chip-of .ensures ∙ ap (λ (b : List ℕ). chipOf (getD b 1 0)) e ∙ chip-at g d 8 0 p in let class = c .before .before .before .before .before .before .before .error-of .ensures ∙ ap (λ (x : Chip). errorOf x false (c .before .before .before .before .before .before .before .before .before .before .word-at .result)) chip ∙ ap (errorOf (g .chip) false) status in rw (sym class ∙ c .before .before .before .before .before .failure .given .1) (c .before .before .fails .ensures g d 8 0 p z e)
+returns-2 c = λ g d p e. let status : c .before .before .before .before .before .before .before .before .before .before .word-at .result ≡ d .word = c .before .before .before .before .before .before .before .before .before .before .word-at .ensures ∙ ap (λ (b : List ℕ). wordAt b 16) e ∙ word-at g d 8 0 p in let chip : c .before .before .before .before .before .before .before .before .chip-of .result ≡ g .chip = c .before .before .before .before .before .before .before .before .chip-of .ensures ∙ ap (λ (b : List ℕ). chipOf (getD b 1 0)) e ∙ chip-at g d 8 0 p in let class = c .before .before .before .before .before .before .before .error-of .ensures ∙ ap (λ (x : Chip). errorOf x false (c .before .before .before .before .before .before .before .before .before .before .word-at .result)) chip ∙ ap (errorOf (g .chip) false) status in rw (sym class ∙ c .before .before .before .before .before .failure .given .1) (c .before .before .fails .ensures g d 8 0 p e)
 
 pub judged-spec : {M : Type 1} → statement M
 judged-spec =

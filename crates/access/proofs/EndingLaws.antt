@@ -1,0 +1,164 @@
+-- An end in words is told by them and by C's number, and which words are an end's.
+-- Assumes nothing.
+use Prim.Native.Nat.{ℕ, _+_, _*_, _/_, _%_, _<_, _≤_}
+use mathlib.Core.Path.{_≡_, refl, sym, ap, subst, _∙_}
+use mathlib.Core.Bool.{Bool, true, false, not, cond, _&&_, _||_, true≢false}
+use native.Mathlib.Omega.{arith}
+use lib.Dec.{eqb, leb, ltb}
+use borrow.Author.Tests.{eqb-true, ne-eqb, lt-ltb}
+use Rattle.access.specs.declared.ending.Error.{Error}
+use Rattle.access.specs.declared.ending.Error.the-variants.{Bus, Arbitration, Nack, Timeout, Crc, Overrun, BufferTooLong, InvalidAddress, InvalidFrequency, DividerTooLarge, InputTooSlow, TooManyOperations, LengthMismatch, InvalidState, InvalidArgument, ReservedAddress, BlockLength, WrongCode, NoSuchSpeed, NoAllowance, TooManyBuses, TooManyItems, NoOrder, NoSuchDate, WrongDate, MapLength}
+use Rattle.access.specs.declared.ending.Failure.{Failure}
+use Rattle.access.specs.declared.ending.Outcome.{Outcome}
+use Rattle.access.specs.declared.ending.Ending.{Ending}
+use Rattle.access.specs.declared.ending.Ending.the-variants.{Done, Failed}
+use Rattle.access.specs.Endings.{errorNumber, errorOf, failureOf, done, returned, failed, endingError, endingValue, endingExtra, extraPlace, wordsNumber, endingNumber, endingOf, endingIn, isEnding, isPlain, isDone, hasFailed}
+use Rattle.access.specs.Numbers.{EndHoldsWords}
+use Rattle.access.proofs.Choice.{when-true, when-false, second-true}
+use Rattle.access.proofs.Bytes.{bytes}
+use Rattle.access.proofs.Compared.{turned, itself}
+
+-- an error by its number
+record ErrorBack (e : Error) : Type 0 where
+  back : endingOf (errorNumber e) 0 0 ≡ failed e
+  below : errorNumber e < 256
+
+error-back : (e : Error) → ErrorBack e
+error-back Bus = record { back = refl; below = omega arith }
+error-back Arbitration = record { back = refl; below = omega arith }
+error-back Nack = record { back = refl; below = omega arith }
+error-back Timeout = record { back = refl; below = omega arith }
+error-back Crc = record { back = refl; below = omega arith }
+error-back Overrun = record { back = refl; below = omega arith }
+error-back BufferTooLong = record { back = refl; below = omega arith }
+error-back InvalidAddress = record { back = refl; below = omega arith }
+error-back InvalidFrequency = record { back = refl; below = omega arith }
+error-back DividerTooLarge = record { back = refl; below = omega arith }
+error-back InputTooSlow = record { back = refl; below = omega arith }
+error-back TooManyOperations = record { back = refl; below = omega arith }
+error-back LengthMismatch = record { back = refl; below = omega arith }
+error-back InvalidState = record { back = refl; below = omega arith }
+error-back InvalidArgument = record { back = refl; below = omega arith }
+error-back ReservedAddress = record { back = refl; below = omega arith }
+error-back BlockLength = record { back = refl; below = omega arith }
+error-back WrongCode = record { back = refl; below = omega arith }
+error-back NoSuchSpeed = record { back = refl; below = omega arith }
+error-back NoAllowance = record { back = refl; below = omega arith }
+error-back TooManyBuses = record { back = refl; below = omega arith }
+error-back TooManyItems = record { back = refl; below = omega arith }
+error-back NoOrder = record { back = refl; below = omega arith }
+error-back NoSuchDate = record { back = refl; below = omega arith }
+error-back WrongDate = record { back = refl; below = omega arith }
+error-back MapLength = record { back = refl; below = omega arith }
+
+pub ending-back : (e : Ending) → endingOf (endingError e) (endingValue e) (endingExtra e) ≡ e
+ending-back (Done o) = refl
+ending-back (Failed f) = error-back (f .error) .back
+
+-- ---- the words in C's number
+
+pub error-below : (e : Ending) → endingError e < 256
+error-below (Done o) = omega arith
+error-below (Failed f) = error-back (f .error) .below
+
+pub value-below : (e : Ending) → EndHoldsWords e → endingValue e < 65536
+value-below (Done o) h = h
+value-below (Failed f) h = omega arith
+
+pub extra-below : (e : Ending) → EndHoldsWords e → endingExtra e < 65536
+extra-below (Done o) h = omega arith
+extra-below (Failed f) h = omega arith
+
+module _ (n v x : ℕ) (h : n < 256) (l : v < 65536) (k : x < 65536) where
+  -- 0 in the place of the kind, and each word in its own
+  record InPlace : Type 0 where
+    kind : wordsNumber n v x % 256 ≡ 0
+    code : wordsNumber n v x / 256 % 256 ≡ n
+    value : wordsNumber n v x / 65536 % 65536 ≡ v
+    extra : wordsNumber n v x / extraPlace n % 65536 ≡ x
+
+  in-place : InPlace
+  in-place = go (eqb n 0) refl
+    where
+      go : (b : Bool) → eqb n 0 ≡ b → InPlace
+      go true e =
+          let z : n ≡ 0 = eqb-true n 0 e in
+          let p : extraPlace n ≡ 4294967296 = ap (λ (b : Bool). cond b 4294967296 281474976710656) e in
+          record { kind = rw p (omega (arith, z)); code = rw p (omega (arith, z, l, k)); value = rw p (omega (arith, z, l, k)); extra = rw p (omega (arith, z, l, k)) }
+      go false e =
+          let p : extraPlace n ≡ 281474976710656 = ap (λ (b : Bool). cond b 4294967296 281474976710656) e in
+          record { kind = rw p (omega (arith, h)); code = rw p (omega (arith, h, l, k)); value = rw p (omega (arith, h, l, k)); extra = rw p (omega (arith, h, l, k)) }
+
+  words-in : endingIn (wordsNumber n v x) ≡ endingOf n v x
+  words-in =
+      let p = in-place in
+      rw (p .code, p .value) (ap (endingOf n v) (p .extra))
+
+-- an end is told by what C sees of it, and its kind is 0
+pub number-in : (e : Ending) → EndHoldsWords e → endingIn (endingNumber e) ≡ e
+number-in e h = words-in (endingError e) (endingValue e) (endingExtra e) (error-below e) (value-below e h) (extra-below e h) ∙ ending-back e
+
+pub end-kind : (e : Ending) → EndHoldsWords e → endingNumber e % 256 ≡ 0
+end-kind e h = in-place (endingError e) (endingValue e) (endingExtra e) (error-below e) (value-below e h) (extra-below e h) .kind
+
+-- ---- which words are an end's
+
+-- the number of an error: 1 to 27, but not 7
+error-range : (n : ℕ) → n < 256 → eqb (errorNumber (errorOf n)) n ≡ not (eqb n 0) && (not (eqb n 7) && ltb n 28)
+error-range = bytes (λ n. not (eqb n 0) && (not (eqb n 7) && ltb n 28)) (λ n. eqb (errorNumber (errorOf n)) n) refl
+
+pub ending-range : (n v x : ℕ) → n < 256 → isEnding n v x ≡ (not (eqb n 7) && ltb n 28) && isPlain n v x
+unfolding isEnding
+ending-range n v x h = go (eqb n 0) refl
+  where
+    go : (b : Bool) → eqb n 0 ≡ b → eqb (endingError (endingOf n v x)) n && (eqb (endingValue (endingOf n v x)) v && eqb (endingExtra (endingOf n v x)) x) ≡ (not (eqb n 7) && ltb n 28) && isPlain n v x
+    go true e = rw (eqb-true n 0 e, itself v, turned 0 x)
+    go false e = rw (e, error-range n h, e, turned 0 v, turned 0 x)
+
+-- words that are an end's say nothing that it has no use for; and so do others whose number is small
+pub ending-plain : (n v x : ℕ) → isEnding n v x ≡ true → isPlain n v x ≡ true
+unfolding isEnding
+ending-plain n v x e = go (eqb n 0) refl
+  where
+    rest : eqb (endingValue (endingOf n v x)) v && eqb (endingExtra (endingOf n v x)) x ≡ true
+    rest = second-true (eqb (endingError (endingOf n v x)) n) (eqb (endingValue (endingOf n v x)) v && eqb (endingExtra (endingOf n v x)) x) e
+
+    go : (b : Bool) → eqb n 0 ≡ b → isPlain n v x ≡ true
+    go true z = rw z (turned x 0 ∙ second-true (eqb v v) (eqb 0 x) (rw z at rest))
+    go false z = let r : eqb 0 v && eqb 0 x ≡ true = rw z at rest in rw (z, turned v 0, turned x 0) r
+
+pub plain-ending : (n v x : ℕ) → n ≤ 6 → isPlain n v x ≡ true → isEnding n v x ≡ true
+plain-ending n v x h e = ending-range n v x (omega (arith, h)) ∙ rw (ne-eqb n 7 (λ z. omega (arith, h, z)), lt-ltb n 28 (omega (arith, h)), e)
+
+-- ---- an end by its words: by 0 one that is done, by another number one that failed
+
+pub as-returned : (P : Ending → Type 0) (n v x : ℕ) → eqb n 0 ≡ true → ((o : Outcome) → o .value ≡ v → P (Done o)) → P (endingOf n v x)
+as-returned P n v x z p = subst P (when-true (returned v) (failed (errorOf n)) z) (p (record { value = v }) refl)
+
+pub as-failed : (P : Ending → Type 0) (n v x : ℕ) → eqb n 0 ≡ false → ((f : Failure) → P (Failed f)) → P (endingOf n v x)
+as-failed P n v x z p = subst P (when-false (returned v) (failed (errorOf n)) z) (p (failureOf (errorOf n)))
+
+-- done with nothing to return, or an error from 1 to 6
+pub done-told : (n v x : ℕ) → eqb n 0 && eqb v 0 ≡ isDone (endingOf n v x)
+done-told n v x = go (eqb n 0)
+  where
+    go : (b : Bool) → b && eqb v 0 ≡ isDone (cond b (returned v) (failed (errorOf n)))
+    go true = refl
+    go false = refl
+
+any-words : (n v x : ℕ) → hasFailed (endingOf n 0 0) ≡ hasFailed (endingOf n v x)
+any-words n v x = go (eqb n 0)
+  where
+    go : (b : Bool) → hasFailed (cond b (returned 0) (failed (errorOf n))) ≡ hasFailed (cond b (returned v) (failed (errorOf n)))
+    go true = refl
+    go false = refl
+
+met-range : (n : ℕ) → n < 256 → ltb 0 n && leb n 6 ≡ hasFailed (endingOf n 0 0)
+met-range = bytes (λ n. hasFailed (endingOf n 0 0)) (λ n. ltb 0 n && leb n 6) refl
+
+pub failed-told : (n v x : ℕ) → n < 256 → ltb 0 n && leb n 6 ≡ hasFailed (endingOf n v x)
+failed-told n v x h = met-range n h ∙ any-words n v x
+
+pub ended-done : (e : Ending) → isDone e ≡ true → e ≡ done
+ended-done (Done o) h = ap returned (eqb-true (o .value) 0 h)
+ended-done (Failed f) h = absurd (true≢false (sym h))
