@@ -20,40 +20,48 @@ use Rattle.access.proofs.Compared.{turned, itself}
 
 -- an error by its number
 record ErrorBack (e : Error) : Type 0 where
-  back : endingOf (errorNumber e) 0 0 ≡ failed e
+  back : errorOf (errorNumber e) ≡ e
+  above : 0 < errorNumber e
   below : errorNumber e < 256
 
 error-back : (e : Error) → ErrorBack e
-error-back Bus = record { back = refl; below = omega arith }
-error-back Arbitration = record { back = refl; below = omega arith }
-error-back Nack = record { back = refl; below = omega arith }
-error-back Timeout = record { back = refl; below = omega arith }
-error-back Crc = record { back = refl; below = omega arith }
-error-back Overrun = record { back = refl; below = omega arith }
-error-back BufferTooLong = record { back = refl; below = omega arith }
-error-back InvalidAddress = record { back = refl; below = omega arith }
-error-back InvalidFrequency = record { back = refl; below = omega arith }
-error-back DividerTooLarge = record { back = refl; below = omega arith }
-error-back InputTooSlow = record { back = refl; below = omega arith }
-error-back TooManyOperations = record { back = refl; below = omega arith }
-error-back LengthMismatch = record { back = refl; below = omega arith }
-error-back InvalidState = record { back = refl; below = omega arith }
-error-back InvalidArgument = record { back = refl; below = omega arith }
-error-back ReservedAddress = record { back = refl; below = omega arith }
-error-back BlockLength = record { back = refl; below = omega arith }
-error-back WrongCode = record { back = refl; below = omega arith }
-error-back NoSuchSpeed = record { back = refl; below = omega arith }
-error-back NoAllowance = record { back = refl; below = omega arith }
-error-back TooManyBuses = record { back = refl; below = omega arith }
-error-back TooManyItems = record { back = refl; below = omega arith }
-error-back NoOrder = record { back = refl; below = omega arith }
-error-back NoSuchDate = record { back = refl; below = omega arith }
-error-back WrongDate = record { back = refl; below = omega arith }
-error-back MapLength = record { back = refl; below = omega arith }
+error-back Bus = record { back = refl; above = omega arith; below = omega arith }
+error-back Arbitration = record { back = refl; above = omega arith; below = omega arith }
+error-back Nack = record { back = refl; above = omega arith; below = omega arith }
+error-back Timeout = record { back = refl; above = omega arith; below = omega arith }
+error-back Crc = record { back = refl; above = omega arith; below = omega arith }
+error-back Overrun = record { back = refl; above = omega arith; below = omega arith }
+error-back BufferTooLong = record { back = refl; above = omega arith; below = omega arith }
+error-back InvalidAddress = record { back = refl; above = omega arith; below = omega arith }
+error-back InvalidFrequency = record { back = refl; above = omega arith; below = omega arith }
+error-back DividerTooLarge = record { back = refl; above = omega arith; below = omega arith }
+error-back InputTooSlow = record { back = refl; above = omega arith; below = omega arith }
+error-back TooManyOperations = record { back = refl; above = omega arith; below = omega arith }
+error-back LengthMismatch = record { back = refl; above = omega arith; below = omega arith }
+error-back InvalidState = record { back = refl; above = omega arith; below = omega arith }
+error-back InvalidArgument = record { back = refl; above = omega arith; below = omega arith }
+error-back ReservedAddress = record { back = refl; above = omega arith; below = omega arith }
+error-back BlockLength = record { back = refl; above = omega arith; below = omega arith }
+error-back WrongCode = record { back = refl; above = omega arith; below = omega arith }
+error-back NoSuchSpeed = record { back = refl; above = omega arith; below = omega arith }
+error-back NoAllowance = record { back = refl; above = omega arith; below = omega arith }
+error-back TooManyBuses = record { back = refl; above = omega arith; below = omega arith }
+error-back TooManyItems = record { back = refl; above = omega arith; below = omega arith }
+error-back NoOrder = record { back = refl; above = omega arith; below = omega arith }
+error-back NoSuchDate = record { back = refl; above = omega arith; below = omega arith }
+error-back WrongDate = record { back = refl; above = omega arith; below = omega arith }
+error-back MapLength = record { back = refl; above = omega arith; below = omega arith }
+
+-- what is not done, by its words
+abbrev failedBy : ℕ → ℕ → Ending
+failedBy n x = failed (errorOf n)
 
 pub ending-back : (e : Ending) → endingOf (endingError e) (endingValue e) (endingExtra e) ≡ e
 ending-back (Done o) = refl
-ending-back (Failed f) = error-back (f .error) .back
+ending-back (Failed f) =
+    let n = errorNumber (f .error) in
+    let b = error-back (f .error) in
+    sym (when-false (returned 0) (failedBy n 0) (ne-eqb n 0 (λ z. omega (arith, b .above, z)))) ∙ ap failed (b .back)
 
 -- ---- the words in C's number
 
@@ -68,6 +76,10 @@ value-below (Failed f) h = omega arith
 pub extra-below : (e : Ending) → EndHoldsWords e → endingExtra e < 65536
 extra-below (Done o) h = omega arith
 extra-below (Failed f) h = omega arith
+
+pub words-hold : (e : Ending) → endingValue e < 65536 → endingExtra e < 65536 → EndHoldsWords e
+words-hold (Done o) h k = h
+words-hold (Failed f) h k = tt
 
 module _ (n v x : ℕ) (h : n < 256) (l : v < 65536) (k : x < 65536) where
   -- 0 in the place of the kind, and each word in its own
@@ -133,23 +145,23 @@ plain-ending n v x h e = ending-range n v x (omega (arith, h)) ∙ rw (ne-eqb n 
 -- ---- an end by its words: by 0 one that is done, by another number one that failed
 
 pub as-returned : (P : Ending → Type 0) (n v x : ℕ) → eqb n 0 ≡ true → ((o : Outcome) → o .value ≡ v → P (Done o)) → P (endingOf n v x)
-as-returned P n v x z p = subst P (when-true (returned v) (failed (errorOf n)) z) (p (record { value = v }) refl)
+as-returned P n v x z p = subst P (when-true (returned v) (failedBy n x) z) (p (record { value = v }) refl)
 
 pub as-failed : (P : Ending → Type 0) (n v x : ℕ) → eqb n 0 ≡ false → ((f : Failure) → P (Failed f)) → P (endingOf n v x)
-as-failed P n v x z p = subst P (when-false (returned v) (failed (errorOf n)) z) (p (failureOf (errorOf n)))
+as-failed P n v x z p = subst P (when-false (returned v) (failedBy n x) z) (p (failureOf (errorOf n)))
 
 -- done with nothing to return, or an error from 1 to 6
 pub done-told : (n v x : ℕ) → eqb n 0 && eqb v 0 ≡ isDone (endingOf n v x)
 done-told n v x = go (eqb n 0)
   where
-    go : (b : Bool) → b && eqb v 0 ≡ isDone (cond b (returned v) (failed (errorOf n)))
+    go : (b : Bool) → b && eqb v 0 ≡ isDone (cond b (returned v) (failedBy n x))
     go true = refl
     go false = refl
 
 any-words : (n v x : ℕ) → hasFailed (endingOf n 0 0) ≡ hasFailed (endingOf n v x)
 any-words n v x = go (eqb n 0)
   where
-    go : (b : Bool) → hasFailed (cond b (returned 0) (failed (errorOf n))) ≡ hasFailed (cond b (returned v) (failed (errorOf n)))
+    go : (b : Bool) → hasFailed (cond b (returned 0) (failedBy n 0)) ≡ hasFailed (cond b (returned v) (failedBy n x))
     go true = refl
     go false = refl
 

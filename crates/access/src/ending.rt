@@ -99,7 +99,6 @@ pub fn ending_error(ending: Ending) -> u8
 // What is returned.
 pub fn ending_value(ending: Ending) -> u16
     ensures { λ r. ⌜ r ≡ endingValue ending ⌝ }
-    ensures { λ _. ⌜ EndHoldsWords ending ⌝ }
 {
     match ending {
         Ending::Done(outcome) => outcome.value,

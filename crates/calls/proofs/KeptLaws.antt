@@ -4,6 +4,7 @@ use mathlib.Core.Path.{_≡_, refl, ap, sym, _∙_}
 use mathlib.Core.Bool.{Bool, true, false, cond, not, _&&_, true≢false}
 use mathlib.Core.List.{List}
 use Prim.Native.Nat.{ℕ}
+use native.Mathlib.Omega.{arith}
 use lib.Dec.{eqb}
 use lib.ListN.{set}
 use borrow.Author.Tests.{eq-eqb}
@@ -14,13 +15,14 @@ use Rattle.access.specs.declared.need.Need.{Need}
 use Rattle.access.specs.declared.need.Need.the-variants as need
 use Rattle.access.specs.Endings.{failed}
 use Rattle.access.specs.Machine.{kept, isEnd}
+use Rattle.access.proofs.EndingLaws.{words-hold}
 use Rattle.asked.specs.Asked.{Asks, needOf, needNumber}
 use Rattle.calls.specs.declared.stepped.Stepped.{Stepped}
 use Rattle.calls.specs.Kept.{Keeps, keepingBy}
 
 -- the number of a refused step
 pub refusal : Asks 3840 (need.End (failed InvalidState))
-refusal = record { number = refl; words = tt }
+refusal = record { number = refl; words = words-hold (failed InvalidState) (omega arith) (omega arith) }
 
 pub end-keeps : (n : Need) (a : ℕ) (bytes : List ℕ) → isEnd n ≡ true → kept n a bytes ≡ bytes
 end-keeps (need.Read r) a bytes e = refl

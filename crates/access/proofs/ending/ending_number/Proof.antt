@@ -1,6 +1,9 @@
 -- `access::ending::ending_number` meets its contract.
 -- Assumes nothing.
 use borrow.Author.Needs.{needs}
+use mathlib.Core.Path.{subst}
+use Prim.Native.Nat.{ℕ, _<_}
+use Rattle.access.proofs.EndingLaws.{words-hold}
 use Rattle.access.proofs.ending.ending_number.Statement.{statement}
 use Rattle.access.proofs.ending.ending_number.Tie as tie
 
@@ -12,4 +15,4 @@ ending-number-spec =
     (λ c κs. search needs)
     (λ c κs. search needs)
     (λ c κs. search needs)
-    (λ c. (rw (c .words-number .ensures, c .before .ending-extra .ensures, c .before .before .ending-value .ensures .0, c .before .before .before .ending-error .ensures), c .before .before .ending-value .ensures .1)))
+    (λ c. (rw (c .words-number .ensures, c .before .ending-extra .ensures, c .before .before .ending-value .ensures, c .before .before .before .ending-error .ensures), words-hold (c .before .before .before .before .args .ending) (subst (λ (m : ℕ). m < 65536) (c .before .before .ending-value .ensures) (search needs)) (subst (λ (m : ℕ). m < 65536) (c .before .ending-extra .ensures) (search needs)))))

@@ -10,5 +10,5 @@ ending-value-spec =
     (tie.spec
     (λ c. search needs)
     (λ c. search needs)
-    (λ c. (rw (c .before .ending .given .1), rw (c .before .ending .given .1) (search needs)))
-    (λ c. (rw (c .enum-told .given .1), rw (c .enum-told .given .1) tt)))
+    (λ c. rw (c .before .ending .given .1))
+    (λ c. rw (c .enum-told .given .1)))

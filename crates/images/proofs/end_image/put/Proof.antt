@@ -12,7 +12,7 @@ returns c = (
   c .before .before .put-word2 .ensures .0,
   λ f e.
       c .before .before .put-word2 .ensures .1
-      ∙ rw (c .before .before .before .before .before .before .put-word .ensures .1, e, c .before .before .before .before .before .before .before .before .ending-error .ensures, c .before .before .before .before .before .before .before .before .before .ending-extra .ensures, c .before .before .before .before .before .before .before .before .before .before .ending-value .ensures .0),
+      ∙ rw (c .before .before .before .before .before .before .put-word .ensures .1, e, c .before .before .before .before .before .before .before .before .ending-error .ensures, c .before .before .before .before .before .before .before .before .before .ending-extra .ensures, c .before .before .before .before .before .before .before .before .before .before .ending-value .ensures),
 )
 
 pub put-spec : {M : Type 1} → statement M
