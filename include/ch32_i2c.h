@@ -71,7 +71,7 @@ enum ch32_i2c_register {
     CH32_I2C_RTR = 8
 };
 
-/* How a call ends. 1 to 6 are met on the bus. 6 and 8 to 16 refuse a call before any access, and 15 a step. (7 is never given.) */
+/* How a call ends. 1 to 6 are met on the bus. 6 and 8 to 17 refuse a call before any access, and 15 a step. (7 is never given.) */
 enum ch32_i2c_end {
     CH32_I2C_DONE = 0,
     CH32_I2C_BUS = 1,                  /* misplaced START or STOP on the bus; chips with ch32v4 alone */
@@ -88,7 +88,8 @@ enum ch32_i2c_end {
     CH32_I2C_TOO_MANY_OPERATIONS = 13, /* more than CH32_I2C_MAX_OPERATIONS */
     CH32_I2C_LENGTH_MISMATCH = 14,     /* the buffers are not as long as the list says */
     CH32_I2C_INVALID_STATE = 15,       /* a block not of 32 bytes; a step after the end, or with a block that does not fit */
-    CH32_I2C_INVALID_ARGUMENT = 16     /* chip, duty, option, flag or direction that does not exist; list not a multiple of 3 bytes */
+    CH32_I2C_INVALID_ARGUMENT = 16,    /* chip, duty, option, flag or direction that does not exist; list not a multiple of 3 bytes */
+    CH32_I2C_RESERVED_ADDRESS = 17     /* own or second address that UM10204 reserves: 0x01 to 0x07, 0x78 to 0x7f; or a second address 0 */
 };
 
 /* The chip: two properties, free of each other. i2c_v3: there is RTR, and TIMEOUT is an error. ch32v4: BERR is an error, and the input
@@ -209,7 +210,9 @@ uint64_t ch32_i2c_read_begin(uint8_t *block, size_t block_length, uint8_t chip, 
 uint64_t ch32_i2c_read_step(uint8_t *block, size_t block_length, uint8_t *read, size_t read_length, uint16_t answer);
 
 /* Makes the peripheral a slave, after init. ten_bit, has_second, general_call and clock_stretching are 0 or 1. `second` is a seven-bit
- * address, ignored where has_second is 0. Never ends with an error once begun. Refusals: 16 (a flag above 1), 9. */
+ * address, ignored where has_second is 0. Never ends with an error once begun. Refusals: 16 (a flag above 1), 9, 17.
+ * Unlike ch32-hal, addresses of seven bits that UM10204 reserves are refused (17): 0x01 to 0x07 and 0x78 to 0x7f, own or second, and a
+ * second address 0. Own address 0 is for general call alone, without it 9. An own address of ten bits is never 17. */
 uint64_t ch32_i2c_init_slave_begin(uint8_t *block, size_t block_length, uint8_t ten_bit, uint16_t address, uint8_t has_second,
                                    uint8_t second, uint8_t general_call, uint8_t clock_stretching);
 uint64_t ch32_i2c_init_slave_step(uint8_t *block, size_t block_length, uint16_t answer);

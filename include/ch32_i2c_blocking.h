@@ -257,7 +257,7 @@ struct ch32_i2c_slave_config {
     uint8_t clock_stretching; /* 1: it may hold SCL low; what one wants as a rule */
 };
 
-/* After ch32_i2c_init. */
+/* After ch32_i2c_init. An address that UM10204 reserves is refused (17) before any access. */
 static inline unsigned ch32_i2c_init_slave(const struct ch32_i2c_port *port, const struct ch32_i2c_slave_config *config)
 {
     struct ch32_i2c_lent l = ch32_i2c_lend(port, NULL, 0, NULL, 0, NULL, 0);

@@ -84,7 +84,7 @@ $(FAULT_RESULTS): $(ORACLE)/faults/%/result: oracle/faults/%.patch $(HAL) $(ORAC
 # Faults in the library, by functions that the linker puts before its own.
 LIBRARY_FAULTS = $(shell sed -n 's/^\#ifdef FAULT_//p' oracle/faults/library.c)
 LIBRARY_RESULTS = $(LIBRARY_FAULTS:%=$(ORACLE)/library-faults/%/result)
-WRAPPED = init_begin write_begin write_step read_step transaction_step listen_step is_critical
+WRAPPED = init_begin init_slave_begin write_begin write_step read_step transaction_step listen_step is_critical
 WRAPS = $(WRAPPED:%=-C link-arg=-Wl,--wrap=ch32_i2c_%)
 
 $(LIBRARY_RESULTS): $(ORACLE)/library-faults/%/result: oracle/faults/library.c $(ORACLE)/liboracle.rlib $(CHIP_LIBS) $(ORACLE)/as_the_rust.o $(CH32_LIB)
@@ -118,7 +118,8 @@ compare-bench: $(ORACLE)/oracle
 	@for case in $(ORACLE)/bench/*.in; do $(BENCH) < $$case > $${case%.in}.got || exit 1; done
 	@$(ORACLE)/oracle bench-compare $(ORACLE)/bench
 
-# The oracle by itself: the carried files are the originals where these are at hand, document 01's example, the sample.
+# The oracle by itself: the carried files are the originals where these are at hand, document 01's example, the sample, and what the Rust
+# does where the port refuses with 10 to 12 and 17.
 ORIGINALS ?= ../shared/docs/src
 oracle-check: $(ORACLE)/oracle
 	@for file in i2c.rs i2c/slave.rs time.rs; do \
@@ -128,3 +129,4 @@ oracle-check: $(ORACLE)/oracle
 	$(ORACLE)/oracle check $(SAMPLE)
 	$(ORACLE)/oracle document
 	$(ORACLE)/oracle panics $(SEED) 20000
+	$(ORACLE)/oracle reserved $(SEED) 20000

@@ -4,6 +4,7 @@
 #include <stdint.h>
 
 uint64_t __real_ch32_i2c_init_begin(uint8_t *, size_t, uint8_t, uint32_t, uint32_t, uint8_t);
+uint64_t __real_ch32_i2c_init_slave_begin(uint8_t *, size_t, uint8_t, uint16_t, uint8_t, uint8_t, uint8_t, uint8_t);
 uint64_t __real_ch32_i2c_write_begin(uint8_t *, size_t, uint8_t, uint8_t, uint8_t, const uint8_t *, size_t);
 uint64_t __real_ch32_i2c_write_step(uint8_t *, size_t, const uint8_t *, size_t, uint16_t);
 uint64_t __real_ch32_i2c_read_step(uint8_t *, size_t, uint8_t *, size_t, uint16_t);
@@ -24,6 +25,25 @@ uint64_t __wrap_ch32_i2c_init_begin(uint8_t *block, size_t n, uint8_t chip, uint
 #ifdef FAULT_refused_settings_change_the_block
     if (n == 32 && (next & 0xff) == 0)
         block[31] ^= 1;
+#endif
+    return next;
+}
+
+uint64_t __wrap_ch32_i2c_init_slave_begin(uint8_t *block, size_t n, uint8_t ten_bit, uint16_t address, uint8_t has_second,
+                                          uint8_t second, uint8_t general_call, uint8_t clock_stretching)
+{
+    uint64_t next = __real_ch32_i2c_init_slave_begin(block, n, ten_bit, address, has_second, second, general_call, clock_stretching);
+#ifdef FAULT_own_address_7_accepted
+    if (next == (uint64_t)17 << 8 && address == 7)
+        next = __real_ch32_i2c_init_slave_begin(block, n, ten_bit, 8, has_second, second, general_call, clock_stretching);
+#endif
+#ifdef FAULT_second_address_0_accepted
+    if (next == (uint64_t)17 << 8 && second == 0)
+        next = __real_ch32_i2c_init_slave_begin(block, n, ten_bit, address, 0, 0, general_call, clock_stretching);
+#endif
+#ifdef FAULT_reserved_before_invalid
+    if (next == (uint64_t)9 << 8 && ten_bit == 0 && address >= 0x78 && address <= 0x7f)
+        next = (uint64_t)17 << 8;
 #endif
     return next;
 }

@@ -1,6 +1,7 @@
-//! THE ADDED CAUSES. The port refuses some calls at which the Rust panics or has no refusal: 8 at the port's size
-//! and 10 to 16. They are document 01's, in its order, and nothing here comes from the Rust. A call whose first cause
-//! is one of them is never given to the Rust. Where 6 or 9 comes first it is, whatever holds behind.
+//! THE ADDED CAUSES. The port refuses some calls at which the Rust panics or has no refusal: 8 at the port's size,
+//! 10 to 16, and 17. They are document 01's, and 17 is document 02's, in their order, and nothing here comes from the
+//! Rust. A call whose first cause is one of them is never given to the Rust. Where 6 or 9 comes first it is, whatever
+//! holds behind.
 
 use record::{Call, Entry};
 
@@ -24,7 +25,8 @@ pub fn added(call: &Call) -> Option<u8> {
         Entry::Write => too_long(call.written.len()),
         Entry::Read if bad_address || no_read => None,
         Entry::Read => too_long(call.read.len()),
-        Entry::InitSlave | Entry::Listen => None,
+        Entry::InitSlave => own_addresses(call),
+        Entry::Listen => None,
         Entry::RespondToWrite => too_long(call.read.len()),
         Entry::RespondToRead => too_long(call.written.len()),
     }
@@ -49,6 +51,26 @@ fn malformed(call: &Call) -> bool {
 /// 8: more bytes than 65,535.
 fn too_long(total: usize) -> Option<u8> {
     (total > 65_535).then_some(8)
+}
+
+/// What UM10204 reserves of the addresses of seven bits.
+fn is_reserved(address: u16) -> bool {
+    matches!(address, 0x01..=0x07 | 0x78..=0x7f)
+}
+
+/// 17, behind every cause of 9. An own address of ten bits is never reserved.
+fn own_addresses(call: &Call) -> Option<u8> {
+    let second = (call.has_second == 1).then_some(call.second as u16);
+    let own_is_bad = match call.ten_bit {
+        1 => call.address > 1023 || second.is_some(),
+        _ => call.address > 127 || call.address == 0 && call.general_call == 0,
+    };
+    if own_is_bad || second.is_some_and(|second| second > 127) {
+        return None;
+    }
+    let own_is_reserved = call.ten_bit == 0 && is_reserved(call.address);
+    let second_is_reserved = second.is_some_and(|second| second == 0 || is_reserved(second));
+    (own_is_reserved || second_is_reserved).then_some(17)
 }
 
 /// 10, 12, 11.

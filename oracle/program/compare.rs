@@ -22,17 +22,20 @@ use rust::Outcome;
 
 use play::Player;
 
-/// How often each end came: 0 to 16, and open calls last.
+/// The place of open calls in a tally, behind the ends 0 to 17.
+const OPEN: usize = 18;
+
+/// How often each end came.
 #[derive(Default)]
 struct Tally {
-    ends: [u64; 18],
+    ends: [u64; OPEN + 1],
     calls: u64,
     accesses: u64,
 }
 
 impl Tally {
     fn add(&mut self, outcome: &Outcome) {
-        let end = outcome.end.map_or(17, |end| (end >> 8 & 0xff) as usize);
+        let end = outcome.end.map_or(OPEN, |end| (end >> 8 & 0xff) as usize);
         self.ends[end] += 1;
         self.calls += 1;
         self.accesses += outcome.record.accesses.len() as u64;
@@ -41,7 +44,7 @@ impl Tally {
     fn ends_text(&self) -> String {
         let counts = self.ends.iter().enumerate().filter(|(_, count)| **count > 0);
         let named = counts.map(|(end, count)| match end {
-            17 => format!("open:{count}"),
+            OPEN => format!("open:{count}"),
             _ => format!("{end}:{count}"),
         });
         named.collect::<Vec<_>>().join(" ")

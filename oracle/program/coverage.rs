@@ -64,7 +64,7 @@ pub fn ends(entry: Entry, chip: u8) -> Vec<u8> {
         Entry::Init => vec![0, 10, 11, 15, 16],
         Entry::Transaction => vec![0, 2, 3, 4, 5, 6, 8, 9, 13, 14, 15, 16],
         Entry::WriteRead | Entry::Write | Entry::Read => vec![0, 2, 3, 4, 5, 6, 8, 9, 15, 16],
-        Entry::InitSlave => vec![0, 9, 15, 16],
+        Entry::InitSlave => vec![0, 9, 15, 16, 17],
         Entry::Listen => vec![0, 2, 4, 5, 6, 15, 16],
         Entry::RespondToWrite | Entry::RespondToRead => vec![0, 2, 4, 5, 6, 8, 15, 16],
     };

@@ -1,11 +1,12 @@
-//! Document 01's edges, as it gives them, looked up in what the Rust does. Answers are 0 where none are given.
+//! Document 01's edges, as it gives them, and document 02's reserved addresses, looked up in what the Rust does behind
+//! the added causes. Answers are 0 where none are given.
 
 use record::{Given, Record};
 
 use crate::{rust, text};
 
-/// A call, and a line that document 01 says is in its record.
-const EDGES: [(&str, &str); 23] = [
+/// A call, and a line that is to be in its record.
+const EDGES: [(&str, &str); 32] = [
     ("entry=init input=36000000 frequency=100000", "w,CKCFGR,00b4"),
     ("entry=init input=36000000 frequency=400000", "w,CKCFGR,801e"),
     ("entry=init input=36000000 frequency=400000 duty=1", "w,CKCFGR,c004"),
@@ -19,8 +20,17 @@ const EDGES: [(&str, &str); 23] = [
     ("entry=init_slave address=0 general_call=1", "w,OADDR1,4000"),
     ("entry=init_slave address=0", "end,9,0"),
     ("entry=init_slave ten_bit=1 address=1023", "w,OADDR1,c3ff"),
-    ("entry=init_slave address=85 has_second=1 second=3", "w,OADDR2,0007"),
+    ("entry=init_slave address=85 has_second=1 second=51", "w,OADDR2,0067"),
     ("entry=init_slave address=85", "w,OADDR2,0000"),
+    ("entry=init_slave address=7", "end,17,0"),
+    ("entry=init_slave address=8", "w,OADDR1,4010"),
+    ("entry=init_slave address=119", "w,OADDR1,40ee"),
+    ("entry=init_slave address=120", "end,17,0"),
+    ("entry=init_slave address=85 has_second=1 second=0", "end,17,0"),
+    ("entry=init_slave address=85 has_second=1 second=8", "w,OADDR2,0011"),
+    ("entry=init_slave address=0 general_call=1 has_second=1 second=3", "end,17,0"),
+    ("entry=init_slave address=120 has_second=1 second=128", "end,9,0"),
+    ("entry=init_slave ten_bit=1 address=3", "w,OADDR1,c003"),
     ("entry=write option=3 written=aa answers=0600", "end,2,4"),
     ("entry=write option=3 written=aa answers=0600", "w,STAR1,f9ff"),
     ("entry=write option=3 chip=2 written=aa answers=0100", "end,1,4"),

@@ -248,7 +248,7 @@ impl Generator {
         call.general_call = self.flag();
         call.clock_stretching = self.flag();
         call.address = match self.random.below(8) {
-            0 => self.random.pick(&[0, 1, 127, 128, 255, 256, 1023, 1024, 65_535]),
+            0 => self.random.pick(&[0, 1, 7, 8, 0x77, 0x78, 127, 128, 255, 256, 1023, 1024, 65_535]),
             1 => self.random.word(),
             2 => self.random.below(1024) as u16,
             _ if call.ten_bit == 1 => self.random.below(1024) as u16,

@@ -7,8 +7,9 @@
 //!     oracle bench-cases DIRECTORY SEED COUNT    bench inputs with what the Rust makes of them
 //!     oracle bench-compare DIRECTORY    the bench program's outputs for them, held to the Rust's
 //!     oracle check FILE    runs a sample's calls again
-//!     oracle document    document 01's edges, looked up in what the Rust does
+//!     oracle document    the documents' edges, looked up in what the Rust does
 //!     oracle panics SEED COUNT    bus settings that are refused with 10, 11 or 12, given to the Rust all the same
+//!     oracle reserved SEED COUNT    own addresses that are refused with 17, given to the Rust all the same
 
 mod chips;
 
@@ -172,7 +173,7 @@ fn check_document() {
     if !differences.is_empty() {
         exit(1);
     }
-    println!("document 01's edges: all as the Rust has them");
+    println!("the documents' edges: all as the Rust has them");
 }
 
 /// The number that stands for the assertion at which the Rust panicked.
@@ -210,6 +211,30 @@ fn panics(seed: u64, count: u64) {
     println!("the Rust panics before any access, and for the same cause, at {ten} settings with 10, {eleven} with 11, {twelve} with 12");
 }
 
+/// The Rust has to take every configuration that `causes` refuses with 17, and to write its addresses.
+fn reserved(seed: u64, count: u64) {
+    let mut taken = 0;
+    for chip in 0..4 {
+        for number in 0..count {
+            let (call, _) = Generator::new(seed, Entry::InitSlave, chip, number, Sizes::All).call(Entry::InitSlave, chip);
+            if causes::added(&call) != Some(17) {
+                continue;
+            }
+            let answers = Box::new(Given {
+                answers: vec![0; 8],
+                used: 0,
+            });
+            let outcome = rust::run_rust(&call, Record::default(), answers, false);
+            if outcome.end != Some(0) || outcome.record.accesses.len() != 8 {
+                println!("not taken by the Rust: {}", text::call_line(&call, &[]));
+                exit(1);
+            }
+            taken += 1;
+        }
+    }
+    println!("the Rust takes all of {taken} configurations with 17");
+}
+
 fn main() {
     rust::use_chips(chips::CHIPS);
     let arguments: Vec<String> = std::env::args().skip(1).collect();
@@ -229,6 +254,7 @@ fn main() {
         ["bench-cases", directory, seed, count] => bench_cases(directory, number(seed), number(count)),
         ["document"] => check_document(),
         ["panics", seed, count] => panics(number(seed), number(count)),
+        ["reserved", seed, count] => reserved(number(seed), number(count)),
         ["check", path] => check_sample(path),
         _ => usage(),
     }
@@ -239,6 +265,6 @@ fn named(entry: &str) -> Entry {
 }
 
 fn usage() -> ! {
-    println!("oracle bench | lines | calls SEED COUNT [ENTRY [CHIP]] | sample FILE SEED TRIES | check FILE | document | panics SEED COUNT");
+    println!("oracle bench | lines | calls SEED COUNT [ENTRY [CHIP]] | sample FILE SEED TRIES | check FILE | document | panics SEED COUNT | reserved SEED COUNT");
     exit(2)
 }

@@ -36,6 +36,7 @@ void plain_call(struct call *c, enum entry entry)
     c->input = 36000000;
     c->frequency = 100000;
     c->own = 0x42;
+    c->second = 0x17;
     c->clock_stretching = 1;
     for (i = 0; i < ROOM; i++) {
         c->written[i] = (uint8_t)(0x31 + i);

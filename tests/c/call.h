@@ -64,6 +64,7 @@ void test_errors(void);
 void test_refusals(void);
 void test_refusal_order(void);
 void test_limits(void);
+void test_own_addresses(void);
 void test_null(void);
 void test_block_lengths(void);
 void test_lent_at_steps(void);

@@ -3,7 +3,8 @@
  * unused_bytes: for each entry, one bit for each byte of the block that is 0 in every image of the entry (bit 5 for byte 5). The test
  *   first sees that begin and steps leave them 0, then that any other value there is refused.
  * stage_byte, first_unknown_stage: where the stage's number lies, and the least number from which on there is no stage.
- * no_settings: numbers of two bytes that no begin leaves there: dividers out of range, addresses too large for seven bits and ten. */
+ * no_settings: numbers of two bytes that no begin leaves there: dividers out of range, addresses too large for seven bits and ten.
+ * own_address_byte, second_address_byte: where init_slave keeps its addresses of seven bits. */
 #ifndef LAYOUT_H
 #define LAYOUT_H
 
@@ -31,5 +32,7 @@ static const struct {
 } no_settings[] = {
     {INIT, 18, 0}, {INIT, 18, 4096}, {INIT, 18, 65535}, {INIT_SLAVE, 8, 1024}, {INIT_SLAVE, 8, 65535},
 };
+
+enum { own_address_byte = 8, second_address_byte = 28 };
 
 #endif

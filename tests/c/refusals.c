@@ -238,6 +238,17 @@ static void long_write(void) { c.written_length = 65536; }
 static void long_read(void) { c.read_length = 65536; }
 static void bad_flag(void) { c.clock_stretching = 2; }
 static void bad_own(void) { c.own = 1024; }
+static void bad_second(void)
+{
+    c.has_second = 1;
+    c.second = 0x80;
+}
+static void reserved_own(void) { c.own = 0x78; }
+static void reserved_second(void)
+{
+    c.has_second = 1;
+    c.second = 0;
+}
 
 struct cause {
     unsigned number;
@@ -264,7 +275,7 @@ static const struct {
     {WRITE, {{15, bad_block}, {16, bad_chip}, {16, bad_option}, {9, bad_address}, {8, long_write}}},
     {READ, {{15, bad_block}, {16, bad_chip}, {16, bad_option}, {9, bad_address}, {6, empty_read}}},
     {READ, {{15, bad_block}, {16, bad_chip}, {16, bad_option}, {9, bad_address}, {8, long_read}}},
-    {INIT_SLAVE, {{15, bad_block}, {16, bad_flag}, {9, bad_own}}},
+    {INIT_SLAVE, {{15, bad_block}, {16, bad_flag}, {9, bad_own}, {9, bad_second}, {17, reserved_own}, {17, reserved_second}}},
     {LISTEN, {{15, bad_block}, {16, bad_chip}}},
     {RESPOND_TO_WRITE, {{15, bad_block}, {16, bad_chip}, {8, long_read}}},
     {RESPOND_TO_READ, {{15, bad_block}, {16, bad_chip}, {8, long_write}}},
@@ -370,12 +381,13 @@ void test_limits(void)
     c.written_length = 0;
     accepted("no data");
     plain_call(&c, INIT_SLAVE);
-    c.own = 127;
+    c.own = 0x77;
     c.has_second = 1;
-    c.second = 127;
-    accepted("addresses 127");
-    c.second = 0;
-    accepted("second address 0");
+    c.second = 0x77;
+    accepted("addresses 0x77");
+    c.own = 0x08;
+    c.second = 0x08;
+    accepted("addresses 0x08");
     c.own = 0;
     c.general_call = 1;
     accepted("own address 0 with general call");
@@ -386,6 +398,8 @@ void test_limits(void)
     accepted("own address 1023");
     c.own = 0;
     accepted("own address 0 of ten bits");
+    c.own = 0x003;
+    accepted("own address 0x003 of ten bits");
 }
 
 /* ---- null pointers with length 0 ---- */

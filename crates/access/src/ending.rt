@@ -4,7 +4,7 @@ ghost use Prim.Native.Nat.{_/_, _%_};
 ghost use Rattle.access.specs.Numbers.{EndHoldsWords};
 ghost use Rattle.access.specs.Endings.{errorNumber, endingError, endingValue, endingExtra, extraPlace, wordsNumber, endingNumber, errorOf, endingOf, endingIn, isEnding, isPlain, failureOf, done, returned, failed, hasFailed, isDone};
 
-// The Rust's `Error`, and behind it the refusals that the port adds, 17 to 27 for calls beside the Rust's. (The Rust's
+// The Rust's `Error`, and behind it the refusals that the port adds; 18 to 27 are for calls beside the Rust's. (The Rust's
 // `ZeroLengthTransfer`, 7, is never given.)
 pub enum Error {
     Bus,

@@ -3,14 +3,13 @@
 use mathlib.Core.Path.{_≡_, refl, ap, sym, subst, _∙_}
 use mathlib.Core.Bool.{Bool, true, false, cond}
 use mathlib.Core.List.{List}
-use mathlib.Core.Option.{none, some}
+use mathlib.Core.Option.{Option, none, some}
 use Rattle.access.specs.declared.ending.Error.{Error}
-use Rattle.access.specs.declared.ending.Error.the-variants.{InvalidAddress}
 use Rattle.slave.specs.declared.config.SlaveConfig.{SlaveConfig}
-use Rattle.slave.specs.Init.{configFault, initRefusal}
+use Rattle.slave.specs.Init.{initRefusal}
 use Rattle.slave_driver.specs.declared.config.Validation.{Validation}
 use Rattle.slave_driver.specs.declared.config.Validation.the-variants.{Valid, Refused}
-use Rattle.slave_driver.specs.Validated.{validated}
+use Rattle.slave_driver.specs.Validated.{answering, validated}
 use lib.ListN.{length}
 use Prim.Native.Nat.{ℕ}
 use native.Mathlib.Omega.{arith}
@@ -81,11 +80,11 @@ module _ (c : SlaveConfig) where
   Says (Refused e) = initRefusal c ≡ some e
 
   says : Says (validated c)
-  says = go (configFault c) refl
+  says = go (initRefusal c) refl
     where
-      go : (t : Bool) → configFault c ≡ t → Says (cond t (Refused InvalidAddress) Valid)
-      go true q = rw q
-      go false q = rw q
+      go : (o : Option Error) → initRefusal c ≡ o → Says (answering o)
+      go none q = q
+      go (some e) q = q
 
   pub config-valid : Valid ≡ validated c → initRefusal c ≡ none
   config-valid q = subst Says (sym q) says
@@ -111,16 +110,12 @@ module _ (f : InitFound) (s : State) (e : f ≡ init.At s) (b : Bool) (q : b ≡
   fits-out t = ap (λ (x : Bool). cond x (init.At s) init.Nothing) (sym t ∙ q) ∙ ap initCall.fitting (sym e)
 
 module _ (f : InitSlaveFound) (s : InitState) (e : f ≡ initSlave.At s) (v : Validation) (q : v ≡ validated (s .config)) where
+  -- by the cause that `validate` answers with
+  fits-by : (o : Option Error) → initRefusal (s .config) ≡ o → initSlaveCall.unlessRefused o s ≡ initSlaveCall.fitting f
+  fits-by o r = ap (λ (x : Option Error). initSlaveCall.unlessRefused x s) (sym r) ∙ ap initSlaveCall.fitting (sym e)
+
   pub fits-valid : v ≡ Valid → initSlave.At s ≡ initSlaveCall.fitting f
-  fits-valid t = go (configFault (s .config)) (sym q ∙ t) ∙ ap initSlaveCall.fitting (sym e)
-    where
-      go : (b : Bool) → cond b (Refused InvalidAddress) Valid ≡ Valid → initSlave.At s ≡ cond b initSlave.Nothing (initSlave.At s)
-      go true k = let z : _≡_ {A = ℕ} 0 1 = cc in absurd (omega arith)
-      go false k = refl
+  fits-valid t = fits-by none (config-valid (s .config) (sym t ∙ q))
 
   pub fits-refused : (x : Error) → v ≡ Refused x → initSlave.Nothing ≡ initSlaveCall.fitting f
-  fits-refused x t = go (configFault (s .config)) (sym q ∙ t) ∙ ap initSlaveCall.fitting (sym e)
-    where
-      go : (b : Bool) → cond b (Refused InvalidAddress) Valid ≡ Refused x → initSlave.Nothing ≡ cond b initSlave.Nothing (initSlave.At s)
-      go true k = refl
-      go false k = let z : _≡_ {A = ℕ} 0 1 = cc in absurd (omega arith)
+  fits-refused x t = fits-by (some x) (config-refused (s .config) x (sym t ∙ q))

@@ -54,7 +54,7 @@ use Rattle.ch32_i2c.proofs.InitCarried.{initImage, initSlaveImage}
 use Rattle.ch32_i2c.proofs.InitRange.{settled-range}
 use Rattle.ch32_i2c.proofs.TransferCarried as transfer
 use Rattle.ch32_i2c.proofs.ResponseCarried as response
-use Rattle.ch32_i2c.proofs.CallsRun.{config-passed, init-begun, slave-begun}
+use Rattle.ch32_i2c.proofs.CallsRun.{init-begun, slave-begun}
 
 -- what a call that is over at once, or not, owes first
 abbrev pub Starts : Bool → Need → Type 0
@@ -182,4 +182,4 @@ module _ (ten address has second general stretching : ℕ) (block : List ℕ) (s
   init-slave-begins r =
       let s = initSlaveMachine.started (cInitSlave.configOf ten address has second general stretching) in
       begins-with (entryOf (initSlave ten address has second general stretching)) (takes (initSlave ten address has second general stretching)) block [] [] (initSlaveImage s) (initSlaveMachine.owed s)
-      (slave-begun ten address has second general stretching block size known r) (init-slave-takes s [] (config-passed (cInitSlave.configOf ten address has second general stretching) r)) false (init-slave-starts (cInitSlave.configOf ten address has second general stretching))
+      (slave-begun ten address has second general stretching block size known r) (init-slave-takes s [] r) false (init-slave-starts (cInitSlave.configOf ten address has second general stretching))

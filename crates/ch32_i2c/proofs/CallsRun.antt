@@ -11,7 +11,7 @@ use lib.ListN.{length}
 use borrow.Author.Tests.{eqb-true, eq-eqb, ltb-false, not-false, le-ltb}
 use Rattle.access.specs.declared.ending.Ending.{Ending}
 use Rattle.access.specs.declared.ending.Error.{Error}
-use Rattle.access.specs.declared.ending.Error.the-variants.{InvalidState, InvalidArgument, InvalidAddress, BufferTooLong}
+use Rattle.access.specs.declared.ending.Error.the-variants.{InvalidState, InvalidArgument, InvalidAddress, BufferTooLong, ReservedAddress}
 use Rattle.access.specs.Endings.{failed}
 use Rattle.access.specs.Record.{Shown, noMore}
 use Rattle.access.specs.Machine.{filled, isEnd, shownFrom}
@@ -38,6 +38,7 @@ use Rattle.slave.specs.declared.init.InitStage.the-variants as initStage
 use Rattle.slave.specs.declared.init.InitState.{InitState}
 use Rattle.slave.specs.declared.state.Setting.{Setting}
 use Rattle.slave.specs.declared.state.Kind as slave
+use Rattle.slave.specs.Reserved.{configReserved}
 use Rattle.slave.specs.Init as initSlaveMachine
 use Rattle.slave.specs.Machine as slaveMachine
 use Rattle.slave.specs.Calls.{SlaveLent, sizeOf, sizeRefusal, settingOf, initShown, slaveShown}
@@ -252,11 +253,10 @@ unfolding initSlaveMachine.owed
 init-slave-met s = init-slave-stage-met (s .stage) s
 
 pub config-passed : (c : SlaveConfig) → initSlaveMachine.initRefusal c ≡ none → initSlaveMachine.configFault c ≡ false
-config-passed c q = go (initSlaveMachine.configFault c) q
-  where
-    go : (b : Bool) → cond b (some InvalidAddress) none ≡ none → b ≡ false
-    go true q = let z : _≡_ {A = ℕ} 0 1 = cc in absurd (omega arith)
-    go false q = refl
+config-passed c q = passed-cause (initSlaveMachine.configFault c) InvalidAddress _ q .0
+
+pub config-unreserved : (c : SlaveConfig) → initSlaveMachine.initRefusal c ≡ none → configReserved c ≡ false
+config-unreserved c q = passed-cause (configReserved c) ReservedAddress none (passed-cause (initSlaveMachine.configFault c) InvalidAddress _ q .1) .0
 
 pub init-shown : (c : SlaveConfig) → initSlaveMachine.initRefusal c ≡ none → (answers : List ℕ) → shownFrom initSlaveMachine.initMachine [] (initSlaveMachine.started c) answers ≡ initShown c answers
 unfolding initShown
@@ -275,10 +275,10 @@ module _ (ten address has second general stretching : ℕ) (block : List ℕ) (s
     init-slave-runs =
         runs-as (λ answers. shownFrom initSlaveMachine.initMachine [] (initSlaveMachine.started config) answers) (initShown config) (init-shown config accepted)
         (record {
-          makes = λ answers. carried (init-slave-carries ten address has second general stretching) (initSlaveMachine.started config) block [] (config-passed config accepted) refl slave-begun answers;
+          makes = λ answers. carried (init-slave-carries ten address has second general stretching) (initSlaveMachine.started config) block [] accepted refl slave-begun answers;
           recorded = λ answers. recorded initSlaveMachine.initMachine [] (initSlaveMachine.started config) answers;
-          met = λ answers. shown-met initSlaveMachine.initMachine [] InitSlaveFit (λ s a g. ap initSlaveMachine.configFault (config-stays s a) ∙ g) (λ s g. init-slave-met s) (initSlaveMachine.started config) (config-passed config accepted) answers;
-          still-open = λ answers h. still-open (init-slave-carries ten address has second general stretching) initSlaveTakes (λ s r g e. init-slave-takes s r g) (initSlaveMachine.started config) block [] (config-passed config accepted) refl slave-begun answers h;
+          met = λ answers. shown-met initSlaveMachine.initMachine [] InitSlaveFit (λ s a g. ap initSlaveMachine.initRefusal (config-stays s a) ∙ g) (λ s g. init-slave-met s) (initSlaveMachine.started config) accepted answers;
+          still-open = λ answers h. still-open (init-slave-carries ten address has second general stretching) initSlaveTakes (λ s r g e. init-slave-takes s r g) (initSlaveMachine.started config) block [] accepted refl slave-begun answers h;
           stays = λ answers more x h. shown-over initSlaveMachine.initMachine [] (initSlaveMachine.started config) answers more x h;
-          over = λ answers x h. over (init-slave-carries ten address has second general stretching) (initSlaveMachine.started config) block [] (config-passed config accepted) refl slave-begun answers x h;
+          over = λ answers x h. over (init-slave-carries ten address has second general stretching) (initSlaveMachine.started config) block [] accepted refl slave-begun answers x h;
         })

@@ -12,7 +12,7 @@ use lib.Seq.{take-all}
 use borrow.Author.Tests.{ltb-false, le-ltb}
 use Rattle.access.specs.declared.ending.Ending.{Ending}
 use Rattle.access.specs.declared.ending.Error.{Error}
-use Rattle.access.specs.declared.ending.Error.the-variants.{InvalidState, InvalidArgument, InvalidAddress, BufferTooLong}
+use Rattle.access.specs.declared.ending.Error.the-variants.{InvalidState, InvalidArgument, BufferTooLong}
 use Rattle.access.specs.declared.ending.Ending.the-variants.{Failed}
 use Rattle.access.specs.Endings.{done, returned, failed}
 use Rattle.access.specs.Program.{Program, finish}
@@ -62,11 +62,11 @@ use Rattle.ch32_i2c.specs.InitSlave as cInitSlave
 use Rattle.ch32_i2c.specs.Demands.{Call, init, transaction, writeRead, write, read, initSlave, listen, respondToWrite, respondToRead, entryOf, Reads, unknown, ownRefusal, refusalOf, Accepted, timedRefusal, rust, ours, endAsTheRust, timedShown, theRusts, NoneAdded, IsMet, takes, nothingToDo, Over, Demand1, Demand2, Demand3, SeenAlike, SameRuns, transactions, writeReads, writes, reads, bytesOfRun, writtenRuns, oursAfter, recordAfter, endAfter, struckAfter, Records, RecordsRust, runsShown, wordsOf, OfDemand2, RepliesEnd, SeenSame}
 use Rattle.ch32_i2c.proofs.Recorded.{record-is, end-is, struck-same}
 use Rattle.ch32_i2c.proofs.PayloadLaws.{differ-same, Answered, answered, answers-same}
-use Rattle.ch32_i2c.proofs.CallsRun.{parts, Runs, begin-left, response-left, transfer-runs, write-runs, response-runs, unread-runs, init-runs, init-slave-runs, shownTimed, small}
+use Rattle.ch32_i2c.proofs.CallsRun.{parts, Runs, begin-left, response-left, transfer-runs, write-runs, response-runs, unread-runs, init-runs, init-slave-runs, config-unreserved, shownTimed, small}
 use Rattle.ch32_i2c.proofs.SlaveEnds.{reply-ends, reply-end, listen-ends, tells-command, tells-status, tells-count}
 use Rattle.ch32_i2c.proofs.Begins.{transaction-starts, write-read-starts, frame-starts, read-starts, transfer-begins, response-begins, init-begins, init-slave-begins}
 use Rattle.ch32_i2c.proofs.Goes.{Is15, init-goes, master-goes, init-slave-goes, slave-goes}
-use Rattle.ch32_i2c.proofs.RustRefuses.{master-refused, master-unadded, timing-added}
+use Rattle.ch32_i2c.proofs.RustRefuses.{master-refused, master-unadded, timing-added, config-faulty, config-unadded}
 use Rattle.ch32_i2c.proofs.RunsRecord.{transaction-runs}
 use Rattle.ch32_i2c.proofs.Words.{second-false, address-passed, Obey, struck-keeps, transfer-obeys, init-slave-obeys, init-obeys, obeys-free}
 use Rattle.ch32_i2c.proofs.Refuses.{transfer-refuses, response-refuses, init-refuses, init-slave-refuses}
@@ -137,7 +137,7 @@ shown-ours (transaction chip address list written) room q turns answers h = mast
 shown-ours (writeRead chip address written) room q turns answers h = master-is-ours .same (callOf chip address kind.WriteRead) (lentWith [] written room) q turns answers h
 shown-ours (write chip address option written) room q turns answers h = master-is-ours .same (callOf chip address (kind.Write (frameOptionsOf option))) (lentWith [] written 0) q turns answers h
 shown-ours (read chip address option) room q turns answers h = master-is-ours .same (callOf chip address (kind.Read (frameOptionsOf option))) (lentWith [] [] room) q turns answers h
-shown-ours (initSlave ten address has second general stretching) room q turns answers h = slave-is-ours .init (cInitSlave.configOf ten address has second general stretching) turns answers h
+shown-ours (initSlave ten address has second general stretching) room q turns answers h = slave-is-ours .init (cInitSlave.configOf ten address has second general stretching) q turns answers h
 shown-ours (listen chip) room q turns answers h = slave-is-ours .same (chipOf chip) Listen (slaveLent.lentWith [] 0) (omega arith) turns answers h
 shown-ours (respondToWrite chip) room q turns answers h = slave-is-ours .same (chipOf chip) RespondToWrite (slaveLent.lentWith [] room) q turns answers h
 shown-ours (respondToRead chip reply) room q turns answers h = slave-is-ours .same (chipOf chip) RespondToRead (slaveLent.lentWith reply 0) q turns answers h
@@ -192,7 +192,7 @@ none-added (transaction chip address list written) room q = master-is-ours .cove
 none-added (writeRead chip address written) room q = master-is-ours .covers (callOf chip address kind.WriteRead) (lentWith [] written room) q
 none-added (write chip address option written) room q = master-is-ours .covers (callOf chip address (kind.Write (frameOptionsOf option))) (lentWith [] written 0) q
 none-added (read chip address option) room q = master-is-ours .covers (callOf chip address (kind.Read (frameOptionsOf option))) (lentWith [] [] room) q
-none-added (initSlave ten address has second general stretching) room q = tt
+none-added (initSlave ten address has second general stretching) room q = config-unreserved (cInitSlave.configOf ten address has second general stretching) q
 none-added (listen chip) room q = tt
 none-added (respondToWrite chip) room q = small room q
 none-added (respondToRead chip reply) room q = small (length reply) q
@@ -220,7 +220,7 @@ rust-refused (write chip address option written) room e q r turns answers h = ma
 rust-refused (read chip address option) room e q r turns answers h = master-refused (callOf chip address (kind.Read (frameOptionsOf option))) (lentWith [] [] room) turns answers e r q
 rust-refused (initSlave ten address has second general stretching) room e q r turns answers h =
     let c = cInitSlave.configOf ten address has second general stretching in
-    sym (slave-is-ours .init c turns answers h) ∙ init-slave-refused c e q answers
+    sym (slave-is-ours .init-refused c (config-faulty c e r q) turns answers h) ∙ init-slave-refused c e q answers
 rust-refused (listen chip) room e q r turns answers h = let z : _≡_ {A = ℕ} 0 1 = cc in absurd (omega arith)
 rust-refused (respondToWrite chip) room e q r turns answers h = size-added room e r q
 rust-refused (respondToRead chip reply) room e q r turns answers h = size-added (length reply) e r q
@@ -228,17 +228,13 @@ rust-refused (respondToRead chip reply) room e q r turns answers h = size-added 
 small-refused : {P : Type 0} (n : ℕ) (e : Error) → n ≤ 65535 → sizeRefusal n ≡ some e → P
 small-refused n e h q = let z : none ≡ some e = ap (λ (b : Bool). cond b (some BufferTooLong) none) (sym (le-ltb 65535 n h)) ∙ q in let y : _≡_ {A = ℕ} 0 1 = cc in absurd (omega arith)
 
-config-refused : (b : Bool) (e : Error) → cond b (some InvalidAddress) none ≡ some e → theRusts e ≡ true
-config-refused true e q = let z : InvalidAddress ≡ e = cc in ap theRusts (sym z)
-config-refused false e q = let z : _≡_ {A = ℕ} 0 1 = cc in absurd (omega arith)
-
 unadded : (c : Call) (room : ℕ) (e : Error) → NoneAdded c room → ownRefusal c room ≡ some e → theRusts e ≡ true
 unadded (init chip input frequency duty) room e n q = let y : _≡_ {A = ℕ} 0 1 = cc in absurd (omega arith)
 unadded (transaction chip address list written) room e n q = master-unadded (callOf chip address kind.Transaction) (lentWith list written room) e n q
 unadded (writeRead chip address written) room e n q = master-unadded (callOf chip address kind.WriteRead) (lentWith [] written room) e n q
 unadded (write chip address option written) room e n q = master-unadded (callOf chip address (kind.Write (frameOptionsOf option))) (lentWith [] written 0) e n q
 unadded (read chip address option) room e n q = master-unadded (callOf chip address (kind.Read (frameOptionsOf option))) (lentWith [] [] room) e n q
-unadded (initSlave ten address has second general stretching) room e n q = config-refused (initSlaveMachine.configFault (cInitSlave.configOf ten address has second general stretching)) e q
+unadded (initSlave ten address has second general stretching) room e n q = config-unadded (cInitSlave.configOf ten address has second general stretching) e n q
 unadded (listen chip) room e n q = let z : _≡_ {A = ℕ} 0 1 = cc in absurd (omega arith)
 unadded (respondToWrite chip) room e n q = small-refused room e n q
 unadded (respondToRead chip reply) room e n q = small-refused (length reply) e n q

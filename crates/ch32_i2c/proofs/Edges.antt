@@ -6,9 +6,10 @@ use Rattle.registers.specs.Addresses.{ownTen}
 use Rattle.access.specs.Edges.{EdgesHold}
 use Rattle.timing.specs.Rust.{timing}
 use Rattle.errors.specs.Classes.{errorOf}
+use Rattle.slave.specs.Reserved.{configReserved}
 use Rattle.slave.specs.Init.{configFault}
 use Rattle.ch32_i2c.specs.Edges.{starredEdges}
 
 pub starred-edges-hold : EdgesHold starredEdges
-unfolding timing errorOf hasBit configFault ownTen
+unfolding timing errorOf hasBit configFault configReserved ownTen
 starred-edges-hold = refl

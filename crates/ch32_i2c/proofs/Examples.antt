@@ -1,9 +1,9 @@
 -- The demands speak of something: calls that are accepted, and what comes of them, by computation.
 -- Assumes nothing.
 use mathlib.Core.Path.{_≡_, refl, ap, sym, subst, _∙_}
-use mathlib.Core.Bool.{true}
-use mathlib.Core.List.{List, [], _∷_}
-use mathlib.Core.Option.{some}
+use mathlib.Core.Bool.{true, false}
+use mathlib.Core.List.{List, [], _∷_, _++_}
+use mathlib.Core.Option.{none, some}
 use Prim.Native.Nat.{ℕ, suc}
 use native.Mathlib.Omega.{arith}
 use lib.ListN.{length, replicate}
@@ -11,10 +11,10 @@ use Rattle.registers.specs.Word.{hasBit, putBit, fieldOf, putField}
 use Rattle.registers.specs.Flags.{errorFlags, clearError}
 use Rattle.registers.specs.Addresses.{addressWord}
 use Rattle.access.specs.Program.{checkTimeout, late}
-use Rattle.access.specs.declared.ending.Error.the-variants.{InvalidAddress}
+use Rattle.access.specs.declared.ending.Error.the-variants.{InvalidAddress, ReservedAddress}
 use Rattle.access.specs.declared.next.Next.{Next}
 use Rattle.access.specs.Endings.{done, returned, failed}
-use Rattle.access.specs.Record.{noMore, Same}
+use Rattle.access.specs.Record.{Shown, noMore, Same}
 use Rattle.operations.specs.Operations.{operationsOf, shaped}
 use Rattle.operations.specs.Runs.{runsOf, runsFrom}
 use Rattle.operations.specs.Search.{faultFrom}
@@ -26,8 +26,16 @@ use Rattle.master.specs.Ours as ours
 use Rattle.master.specs.Joined.{joined, joinW}
 use Rattle.slave.specs.Calls.{oursSlave}
 use Rattle.slave.specs.Rust as slave
+use Rattle.slave.specs.Reserved.{configReserved}
 use Rattle.slave.specs.Init.{configFault}
+use Rattle.slave.specs.Init as initSlave
+use Rattle.slave.proofs.CallAgrees.{slave-is-ours}
+use Rattle.block.specs.Fields.{sameFields}
+use Rattle.block.specs.Bytes32.{fieldsOf}
+use Rattle.images.specs.InitSlaveImage.{initSlaveFields, initSlaveOf, initSlaveIn}
+use Rattle.calls.specs.InitSlave.{initSlaveHeld}
 use Rattle.timing.specs.Rust.{timing}
+use Rattle.ch32_i2c.specs.InitSlave.{configOf}
 use Rattle.ch32_i2c.specs.Fed.{Seen, endIn, recordIn, DifferAtPayload, payloadIn}
 use Rattle.ch32_i2c.specs.Demands.{Call, transaction, listen, respondToWrite, respondToRead, Accepted, Over, Commanded, SameRuns, transactions, RepliesEnd, SeenAlike, SeenSame}
 use Rattle.ch32_i2c.specs.Demands as demands
@@ -183,5 +191,52 @@ unfolding timing
 init-accepted = refl
 
 init-slave-accepted : Accepted (demands.initSlave 1 0x3ff 0 0 0 0) zeros []
-unfolding configFault
+unfolding configFault configReserved
 init-slave-accepted = refl
+
+-- ---- addresses that UM10204 reserves
+
+-- an own address of seven bits without general call
+abbrev ownAt : ℕ → Call
+ownAt address = demands.initSlave 0 address 0 0 0 0
+
+reserved-refused : demands.refusalOf (ownAt 0x07) 32 0 ≡ some ReservedAddress
+unfolding configFault configReserved
+reserved-refused = refl
+
+-- the Rust goes on there
+rust-goes-on : demands.rust 1 (ownAt 0x07) 0 [] .end ≡ none
+unfolding configFault configReserved initSlave.owed
+rust-goes-on = ap (λ (s : Shown). s .end) (slave-is-ours .init-departs (configOf 0 0x07 0 0 0 0) refl 1 [] (omega arith))
+
+unreserved-accepted : Accepted (ownAt 0x08) zeros []
+unfolding configFault configReserved
+unreserved-accepted = refl
+
+general-call-accepted : Accepted (demands.initSlave 0 0 0 0 1 0) zeros []
+unfolding configFault configReserved
+general-call-accepted = refl
+
+ten-bits-accepted : Accepted (demands.initSlave 1 0x003 0 0 0 0) zeros []
+unfolding configFault configReserved
+ten-bits-accepted = refl
+
+-- own 0x78 with second 0x80: 9 comes first, and the Rust gives it too
+nine-first : demands.ownRefusal (demands.initSlave 0 0x78 1 0x80 0 0) 0 ≡ some InvalidAddress
+unfolding configFault
+nine-first = refl
+
+rust-gives-nine : (answers : List ℕ) → demands.rust (suc (length answers)) (demands.initSlave 0 0x78 1 0x80 0 0) 0 answers ≡ noMore (some (failed InvalidAddress))
+rust-gives-nine answers = demand-2 .refused (demands.initSlave 0 0x78 1 0x80 0 0) 0 InvalidAddress nine-first refl (suc (length answers)) answers (omega arith)
+
+-- a block of `init_slave` before its first access, with this own address of seven bits
+abbrev blockAt : ℕ → List ℕ
+blockAt address = 6 ∷ replicate 7 0 ++ (address ∷ replicate 23 0)
+
+block-taken : demands.takes (ownAt 0x42) (blockAt 0x42) [] ≡ true
+unfolding initSlaveHeld initSlaveIn initSlaveOf initSlaveFields fieldsOf sameFields configFault configReserved initSlave.owed
+block-taken = refl
+
+reserved-block-refused : demands.takes (ownAt 0x42) (blockAt 0x07) [] ≡ false
+unfolding initSlaveHeld initSlaveIn initSlaveOf initSlaveFields fieldsOf sameFields configFault configReserved
+reserved-block-refused = refl

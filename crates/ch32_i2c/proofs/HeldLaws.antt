@@ -3,6 +3,7 @@
 use mathlib.Core.Path.{_≡_, refl, ap, sym, _∙_}
 use mathlib.Core.Bool.{Bool, true, false, cond}
 use mathlib.Core.List.{List}
+use mathlib.Core.Option.{none}
 use native.Mathlib.Omega.{arith}
 use Prim.Native.Nat.{ℕ}
 use lib.Dec.{eqb}
@@ -35,7 +36,7 @@ use Rattle.images.proofs.SlaveImageLaws.{slave-found}
 use Rattle.calls.specs.Init.{initHeld}
 use Rattle.calls.specs.Init as initCall
 use Rattle.calls.specs.InitSlave as initSlaveCall
-use Rattle.slave.specs.Init.{configFault}
+use Rattle.slave.specs.Init.{initRefusal}
 use Rattle.calls.specs.Transfer.{masterHeld}
 use Rattle.calls.specs.InitSlave.{initSlaveHeld}
 use Rattle.calls.specs.Response.{slaveHeld}
@@ -53,7 +54,7 @@ unfolding initHeld
 init-held s g = held (λ (f : Fields). initCall.fitting (initIn f)) initFound.Nothing (initFields s) ∙ ap initCall.fitting (init-found s) ∙ rw g
 
 -- where begin would take the configuration
-pub init-slave-held : (s : InitState) → configFault (s .config) ≡ false → initSlaveHeld (bytesOf (initSlaveFields s)) ≡ initSlaveFound.At s
+pub init-slave-held : (s : InitState) → initRefusal (s .config) ≡ none → initSlaveHeld (bytesOf (initSlaveFields s)) ≡ initSlaveFound.At s
 unfolding initSlaveHeld
 init-slave-held s g = held (λ (f : Fields). initSlaveCall.fitting (initSlaveIn f)) initSlaveFound.Nothing (initSlaveFields s) ∙ ap initSlaveCall.fitting (init-slave-found s) ∙ rw g
 

@@ -3,6 +3,7 @@
 use mathlib.Core.Path.{_≡_, refl, ap, sym, _∙_}
 use mathlib.Core.Bool.{Bool, true, false, cond}
 use mathlib.Core.List.{List, []}
+use mathlib.Core.Option.{none}
 use Prim.Native.Nat.{ℕ}
 use lib.ListN.{length}
 use Rattle.block.specs.Bytes32.{bytesOf}
@@ -91,7 +92,7 @@ config-stays s x = stage-config (s .stage) s x
 
 -- a state whose configuration begin would take
 abbrev pub InitSlaveFit : InitState → Type 0
-InitSlaveFit s = slave.configFault (s .config) ≡ false
+InitSlaveFit s = slave.initRefusal (s .config) ≡ none
 
 abbrev pub initSlaveImage : InitState → List ℕ
 initSlaveImage s = bytesOf (initSlaveFields s)
@@ -102,7 +103,7 @@ initSlaveEntry ten address has second general stretching =
 
 init-slave-run : IsRun initSlaveCall.initSlaveOn slave.initMachine (λ s. s) InitSlaveFit
 init-slave-run =
-    record { needs = λ s. refl; moves = λ s a. refl; stays = λ s a g. ap slave.configFault (config-stays s a) ∙ g; held = λ s g. ap initSlaveCall.stateIn (init-slave-held s g) }
+    record { needs = λ s. refl; moves = λ s a. refl; stays = λ s a g. ap slave.initRefusal (config-stays s a) ∙ g; held = λ s g. ap initSlaveCall.stateIn (init-slave-held s g) }
 
 pub init-slave-carries : (ten address has second general stretching : ℕ) → Carries slave.initMachine [] 0 (initSlaveEntry ten address has second general stretching) initSlaveImage InitSlaveFit
 unfolding initSlave.initSlaveStep

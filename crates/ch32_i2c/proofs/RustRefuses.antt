@@ -11,7 +11,7 @@ use lib.ListN.{length, take, drop, length-take}
 use borrow.Author.Tests.{ltb-false, le-ltb, lt-ltb, eq-eqb}
 use Rattle.registers.specs.declared.chip.Chip.{Chip}
 use Rattle.access.specs.declared.ending.Error.{Error}
-use Rattle.access.specs.declared.ending.Error.the-variants.{Overrun, BufferTooLong, InvalidAddress, TooManyOperations, LengthMismatch, InvalidArgument}
+use Rattle.access.specs.declared.ending.Error.the-variants.{Overrun, BufferTooLong, InvalidAddress, TooManyOperations, LengthMismatch, InvalidArgument, ReservedAddress}
 use Rattle.access.specs.declared.ending.Ending.the-variants.{Failed}
 use Rattle.access.specs.declared.ending.Failure.{Failure}
 use Rattle.access.specs.Endings.{failureOf, failed, done}
@@ -35,6 +35,9 @@ use Rattle.master.specs.declared.call.Kind.{Kind}
 use Rattle.master.specs.declared.call.Kind.the-variants as kind
 use Rattle.master.specs.Rust as rust
 use Rattle.master.specs.Calls.{Lent, cut, refuse, orNext, mismatch, refusal, refusalAt, NoAddedCause, function, rustWith}
+use Rattle.slave.specs.declared.config.SlaveConfig.{SlaveConfig}
+use Rattle.slave.specs.Reserved.{configReserved}
+use Rattle.slave.specs.Init.{configFault, initRefusal}
 use Rattle.ch32_i2c.specs.Demands.{timedRefusal, theRusts}
 
 -- ---- causes one by one
@@ -249,3 +252,16 @@ module _ (address : ℕ) (l : Lent) (e : Error) where
 pub master-unadded : (c : Call) (l : Lent) (e : Error) → NoAddedCause (c .kind) l → refusal c l ≡ some e → theRusts e ≡ true
 unfolding refusal
 master-unadded c l e f q = by-kind (c .address) l e (c .kind) f q
+
+-- ---- a slave's configuration
+
+-- 9 is the only cause that the Rust has too
+pub config-faulty : (c : SlaveConfig) (e : Error) → theRusts e ≡ true → initRefusal c ≡ some e → configFault c ≡ true
+config-faulty c e r q =
+    peeled (configFault c) InvalidAddress _ e q (λ f _. f)
+    (λ _ q. peeled (configReserved c) ReservedAddress none e q (λ _ z. added ReservedAddress e refl r z) (λ _ z. none-left e z))
+
+pub config-unadded : (c : SlaveConfig) (e : Error) → configReserved c ≡ false → initRefusal c ≡ some e → theRusts e ≡ true
+config-unadded c e n q =
+    ours-passed (configFault c) InvalidAddress _ e q (λ _. refl)
+    (λ q. ours-passed (configReserved c) ReservedAddress none e q (λ h. absurd (true≢false (sym h ∙ n))) (none-left e))

@@ -64,6 +64,7 @@ use Rattle.slave.specs.declared.config.SlaveAddress.the-variants.{SevenBit, Ten
 use Rattle.slave.specs.declared.command.SlaveCommand.{SlaveCommand}
 use Rattle.slave.specs.declared.state.Kind as response
 use Rattle.slave.specs.declared.state.Kind.the-variants.{Listen, RespondToWrite, RespondToRead}
+use Rattle.slave.specs.Reserved.{configReserved}
 use Rattle.slave.specs.Init.{initRefusal}
 use Rattle.slave.specs.Init as initSlaveMachine
 use Rattle.slave.specs.Calls.{SlaveLent, sizeOf, sizeRefusal, rustInit, rustSlave, oursSlave}
@@ -149,7 +150,7 @@ abbrev pub timedRefusal : Timed → Option Error
 timedRefusal (timed.At t) = none
 timedRefusal (timed.Refused e) = some e
 
--- the call's own causes, in document 01's order, where so many bytes are lent to read
+-- the call's own causes, in the order of documents 01 and 02, where so many bytes are lent to read
 abbrev pub ownRefusal : Call → ℕ → Option Error
 ownRefusal (init chip input frequency duty) room = timedRefusal (timing (chipOf chip) input frequency (dutyOf duty))
 ownRefusal (transaction chip address list written) room = refusal (callOf chip address kind.Transaction) (lentWith list written room)
@@ -209,14 +210,14 @@ endAsTheRust (respondToRead chip reply) e = asTheRust (chipOf chip) false e
 abbrev pub theRusts : Error → Bool
 theRusts e = eqb (errorNumber e) 6 || eqb (errorNumber e) 9
 
--- none of the call's own causes that the port adds to the Rust's: 8 at its size, 10 to 14, and 16 for a list
+-- none of the call's own causes that the port adds to the Rust's: 8 at its size, 10 to 14, 16 for a list, and 17
 abbrev pub NoneAdded : Call → ℕ → Type 0
 NoneAdded (init chip input frequency duty) room = ownRefusal (init chip input frequency duty) room ≡ none
 NoneAdded (transaction chip address list written) room = NoAddedCause kind.Transaction (lentWith list written room)
 NoneAdded (writeRead chip address written) room = NoAddedCause kind.WriteRead (lentWith [] written room)
 NoneAdded (write chip address option written) room = NoAddedCause (kind.Write (frameOptionsOf option)) (lentWith [] written 0)
 NoneAdded (read chip address option) room = NoAddedCause (kind.Read (frameOptionsOf option)) (lentWith [] [] room)
-NoneAdded (initSlave ten address has second general stretching) room = Unit {0}
+NoneAdded (initSlave ten address has second general stretching) room = configReserved (configOf ten address has second general stretching) ≡ false
 NoneAdded (listen chip) room = Unit {0}
 NoneAdded (respondToWrite chip) room = room ≤ 65535
 NoneAdded (respondToRead chip reply) room = length reply ≤ 65535

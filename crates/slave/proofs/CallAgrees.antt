@@ -5,6 +5,7 @@ use mathlib.Core.Bool.{Bool, true, false, cond, _||_, or-true, or-false}
 use mathlib.Core.List.{List, []}
 use mathlib.Core.Option.{none, some}
 use Prim.Native.Nat.{ℕ, _<_}
+use native.Mathlib.Omega.{arith}
 use borrow.Author.Tests.{le-ltb}
 use lib.Dec.{ltb}
 use lib.ListN.{length}
@@ -13,7 +14,7 @@ use Rattle.registers.specs.declared.register.Register.the-variants.{Oaddr1, Oad
 use Rattle.registers.specs.Bits.{ENDUAL}
 use Rattle.registers.proofs.WordLaws.{cleared-none}
 use Rattle.registers.proofs.AddressLaws.{seven-fields, ten-fields, second-fields}
-use Rattle.access.specs.declared.ending.Error.the-variants.{InvalidAddress, BufferTooLong}
+use Rattle.access.specs.declared.ending.Error.the-variants.{InvalidAddress, BufferTooLong, ReservedAddress}
 use Rattle.access.specs.declared.ending.Failure.{Failure}
 use Rattle.access.specs.declared.ending.Ending.the-variants.{Failed}
 use Rattle.access.specs.declared.need.Need.the-variants as need
@@ -30,7 +31,8 @@ use Rattle.slave.specs.declared.config.SlaveConfig.{SlaveConfig}
 use Rattle.slave.specs.declared.state.Kind.{Kind}
 use Rattle.slave.specs.declared.state.Kind.the-variants.{Listen, RespondToWrite, RespondToRead}
 use Rattle.slave.specs.Rust as rust
-use Rattle.slave.specs.Init.{ownFault, secondFault, configFault, ownWord, secondWord, owed, advance, initMachine, started}
+use Rattle.slave.specs.Reserved.{configReserved}
+use Rattle.slave.specs.Init.{ownFault, secondFault, configFault, initRefusal, ownWord, secondWord, owed, advance, initMachine, started}
 use Rattle.slave.specs.Machine.{fresh, slave, start}
 use Rattle.slave.specs.Calls.{seenAfter, initShown, rustInit, SlaveLent, sizeOf, settingOf, bytesOf, slaveShown, oursProgram, oursSlave, Accepted}
 use Rattle.slave.specs.Claims.{SlaveIsOurs}
@@ -77,15 +79,34 @@ init-slave-agrees c n at h =
     writes (ap (need.Write Oaddr2) (sym (second-word-is (c .«second_address»)))) (λ _.
     reads refl (λ w. writes refl (λ _. ends done refl))))))))
 
-init-same : (c : SlaveConfig) (turns : ℕ) (answers : List ℕ) → length answers < turns → initShown c answers ≡ rustInit turns c answers
-unfolding initShown rustInit rust.into-slave
-init-same c turns answers q =
-    go (configFault c) ∙ ap (λ (p : Program). shownOf 0 p answers) (sym (validate-agrees c turns (λ f. finish (Failed f)) (λ _. rust.init-slave c turns (λ f. finish (Failed f)) (λ _. finish done))))
+-- the Rust: 9 for a fault, and else the machine
+rust-is : (c : SlaveConfig) (turns : ℕ) (answers : List ℕ) → length answers < turns
+    → rustInit turns c answers ≡ seenAfter (cond (configFault c) (some InvalidAddress) none) (shownFrom initMachine [] (started c) answers)
+unfolding rustInit rust.into-slave
+rust-is c turns answers q =
+    ap (λ (p : Program). shownOf 0 p answers) (validate-agrees c turns (λ f. finish (Failed f)) (λ _. rust.init-slave c turns (λ f. finish (Failed f)) (λ _. finish done))) ∙ go (configFault c)
   where
-    go : (b : Bool) → seenAfter (cond b (some InvalidAddress) none) (shownFrom initMachine [] (started c) answers)
-        ≡ shownOf 0 (cond b (finish (Failed (failureOf InvalidAddress))) (rust.init-slave c turns (λ f. finish (Failed f)) (λ _. finish done))) answers
+    go : (b : Bool) → shownOf 0 (cond b (finish (Failed (failureOf InvalidAddress))) (rust.init-slave c turns (λ f. finish (Failed f)) (λ _. finish done))) answers
+        ≡ seenAfter (cond b (some InvalidAddress) none) (shownFrom initMachine [] (started c) answers)
     go true = refl
-    go false = init-slave-agrees c turns 0 (λ f. finish (Failed f)) .same answers q
+    go false = sym (init-slave-agrees c turns 0 (λ f. finish (Failed f)) .same answers q)
+
+init-same : (c : SlaveConfig) → configReserved c ≡ false → (turns : ℕ) (answers : List ℕ) → length answers < turns → initShown c answers ≡ rustInit turns c answers
+unfolding initShown
+init-same c r turns answers q = rw r (sym (rust-is c turns answers q))
+
+init-refused : (c : SlaveConfig) → configFault c ≡ true → (turns : ℕ) (answers : List ℕ) → length answers < turns → initShown c answers ≡ rustInit turns c answers
+unfolding initShown
+init-refused c f turns answers q = rw f (sym (rw f at (rust-is c turns answers q)))
+
+init-departs : (c : SlaveConfig) → initRefusal c ≡ some ReservedAddress → (turns : ℕ) (answers : List ℕ) → length answers < turns
+    → rustInit turns c answers ≡ shownFrom initMachine [] (started c) answers
+init-departs c e turns answers q = rust-is c turns answers q ∙ go (configFault c) e
+  where
+    go : (b : Bool) → cond b (some InvalidAddress) (cond (configReserved c) (some ReservedAddress) none) ≡ some ReservedAddress
+        → seenAfter (cond b (some InvalidAddress) none) (shownFrom initMachine [] (started c) answers) ≡ shownFrom initMachine [] (started c) answers
+    go true e = let z : _≡_ {A = ℕ} 0 1 = cc in absurd (omega arith)
+    go false e = refl
 
 -- ---- listen and the two responders
 
@@ -106,4 +127,4 @@ unfolding oursSlave
 same chip x l a turns answers q = accepted-shown chip x l a answers ∙ program-same chip x l turns answers q
 
 pub slave-is-ours : SlaveIsOurs
-slave-is-ours = record { init = init-same; same = same }
+slave-is-ours = record { init = init-same; init-refused = init-refused; init-departs = init-departs; same = same }

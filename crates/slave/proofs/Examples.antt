@@ -1,4 +1,4 @@
--- The starred edges, and calls of which secrecy speaks, by computation.
+-- The starred edges, the reserved addresses, and calls of which secrecy speaks, by computation.
 -- Assumes nothing.
 use mathlib.Core.Path.{_≡_, refl}
 use mathlib.Core.Bool.{false}
@@ -17,16 +17,21 @@ use Rattle.access.specs.Record.{DifferInPayload, Same, SameStruck}
 use Rattle.access.specs.Edges.{EdgesHold}
 use Rattle.slave.specs.declared.state.Kind.the-variants.{Listen, RespondToWrite, RespondToRead}
 use Rattle.slave.specs.Rust as rust
+use Rattle.slave.specs.Reserved.{configReserved}
 use Rattle.slave.specs.Init.{configFault}
 use Rattle.slave.specs.Machine.{owed, advance}
 use Rattle.slave.specs.Calls.{SlaveLent, Accepted, slaveShown, rustSlave, oursSlave}
 use Rattle.slave.specs.Claims.{Any}
-use Rattle.slave.specs.Edges.{addressEdges}
+use Rattle.slave.specs.Edges.{addressEdges, reservedEdges}
 use Rattle.slave.proofs.Secret.{slave-is-secret}
 
 edges : EdgesHold addressEdges
-unfolding configFault ownTen
+unfolding configFault configReserved ownTen
 edges = refl
+
+reserved-edges : EdgesHold reservedEdges
+unfolding configFault configReserved
+reserved-edges = refl
 
 -- neither i2c_v3 nor ch32v4
 abbrev plain : Chip

@@ -1,11 +1,14 @@
 -- What is claimed of the slave: it is ours, ours is the Rust, and a recorder who strikes out the payload learns nothing of it.
 use mathlib.Core.Path.{_≡_}
 use mathlib.Core.Bool.{true, false}
-use mathlib.Core.List.{List}
+use mathlib.Core.List.{List, []}
+use mathlib.Core.Option.{some}
 use Prim.Native.Nat.{ℕ, _<_}
 use lib.ListN.{length, take}
 use Rattle.registers.specs.declared.chip.Chip.{Chip}
 use Rattle.access.specs.declared.ending.Ending.{Ending}
+use Rattle.access.specs.declared.ending.Error.the-variants.{ReservedAddress}
+use Rattle.access.specs.Machine.{shownFrom}
 use Rattle.access.specs.Record.{DifferInPayload, Same, SameStruck}
 use Rattle.alike.specs.Like.{forgetting}
 use Rattle.errors.specs.AsTheRust.{asTheRust}
@@ -14,14 +17,20 @@ use Rattle.slave.specs.declared.state.Kind.{Kind}
 use Rattle.slave.specs.declared.state.Kind.the-variants.{RespondToWrite, RespondToRead}
 use Rattle.slave.specs.declared.state.Setting.{Setting}
 use Rattle.slave.specs.declared.state.Move.{Move}
+use Rattle.slave.specs.Reserved.{configReserved}
+use Rattle.slave.specs.Init.{configFault, initRefusal, initMachine, started}
 use Rattle.slave.specs.Machine.{advance, start}
 use Rattle.slave.specs.Fits.{fits}
 use Rattle.slave.specs.Calls.{SlaveLent, Accepted, initShown, rustInit, slaveShown, rustSlave, oursSlave}
 
--- every configuration shows the Rust's record and end: `init_slave` has no part in which ours differs
--- every other call without an added cause of refusal shows the record, end and arrived bytes of our text, after every list of answers
+-- every call without an added cause of refusal shows the record, end and arrived bytes of our text, after every list of answers
 pub record SlaveIsOurs : Type 0 where
-  pub init : (c : SlaveConfig) (turns : ℕ) (answers : List ℕ) → length answers < turns → initShown c answers ≡ rustInit turns c answers
+  -- `init_slave` has no part of ours beside the added cause: without it, and where 9 comes first, it shows the Rust's record and end
+  pub init : (c : SlaveConfig) → configReserved c ≡ false → (turns : ℕ) (answers : List ℕ) → length answers < turns → initShown c answers ≡ rustInit turns c answers
+  pub init-refused : (c : SlaveConfig) → configFault c ≡ true → (turns : ℕ) (answers : List ℕ) → length answers < turns → initShown c answers ≡ rustInit turns c answers
+  -- where 17 is given the Rust goes on: it makes every access
+  pub init-departs : (c : SlaveConfig) → initRefusal c ≡ some ReservedAddress → (turns : ℕ) (answers : List ℕ) → length answers < turns
+      → rustInit turns c answers ≡ shownFrom initMachine [] (started c) answers
   pub same : (chip : Chip) (x : Kind) (l : SlaveLent) → Accepted x l → (turns : ℕ) (answers : List ℕ) → length answers < turns
       → slaveShown chip x l answers ≡ oursSlave turns chip x l answers
 

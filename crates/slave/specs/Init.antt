@@ -8,7 +8,7 @@ use Rattle.registers.specs.Bits.{PE, ENGC, NOSTRETCH, ACK, ITBUFEN}
 use Rattle.registers.specs.Word.{putBit}
 use Rattle.registers.specs.Addresses.{ownSeven, ownTen, secondAddress}
 use Rattle.access.specs.declared.ending.Error.{Error}
-use Rattle.access.specs.declared.ending.Error.the-variants.{InvalidAddress}
+use Rattle.access.specs.declared.ending.Error.the-variants.{InvalidAddress, ReservedAddress}
 use Rattle.access.specs.declared.need.Need.{Need}
 use Rattle.access.specs.declared.need.Need.the-variants as need
 use Rattle.access.specs.Endings.{done}
@@ -21,6 +21,7 @@ use Rattle.slave.specs.declared.config.SlaveConfig.{SlaveConfig}
 use Rattle.slave.specs.declared.init.InitStage.{InitStage}
 use Rattle.slave.specs.declared.init.InitStage.the-variants.{DisableRead, DisableWrite, BufferRead, BufferWrite, Own, Second, EnableRead, EnableWrite, Ended}
 use Rattle.slave.specs.declared.init.InitState.{InitState}
+use Rattle.slave.specs.Reserved.{configReserved}
 
 -- ---- refusals
 
@@ -38,8 +39,9 @@ secondFault (TenBit a) (At b) = true
 unfoldable pub configFault : SlaveConfig → Bool
 configFault c = ownFault (c .address) (c .«general_call») || secondFault (c .address) (c .«second_address»)
 
+-- 9, the Rust's, then the added 17
 abbrev pub initRefusal : SlaveConfig → Option Error
-initRefusal c = cond (configFault c) (some InvalidAddress) none
+initRefusal c = cond (configFault c) (some InvalidAddress) (cond (configReserved c) (some ReservedAddress) none)
 
 -- ---- the machine
 

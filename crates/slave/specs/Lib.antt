@@ -1,6 +1,7 @@
 pub mod Rust
 pub mod Ours
 pub mod Numbers
+pub mod Reserved
 pub mod Init
 pub mod Machine
 pub mod Fits

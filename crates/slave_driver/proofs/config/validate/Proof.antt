@@ -10,4 +10,6 @@ validate-spec =
     (tie.spec
     (λ c κs. search needs)
     (λ c. rw (← c .before .config-fault .ensures, c .if1 .taken))
-    (λ c. rw (← c .before .config-fault .ensures, c .if1 .left)))
+    (λ c κs. search needs)
+    (λ c. rw (← c .before .before .before .config-fault .ensures, c .before .before .if1 .left, ← c .before .config-reserved .ensures, c .if2 .taken))
+    (λ c. rw (← c .before .before .before .config-fault .ensures, c .before .before .if1 .left, ← c .before .config-reserved .ensures, c .if2 .left)))
