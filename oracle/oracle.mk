@@ -113,7 +113,8 @@ replay-c: $(ORACLE)/replay
 	$(ORACLE)/replay $(SAMPLE)
 
 # The bench program BENCH on random transactions, beside the Rust.
-compare-bench: $(ORACLE)/oracle
+BENCH ?= target/bin/bench
+compare-bench: $(ORACLE)/oracle $(BENCH)
 	@rm -rf $(ORACLE)/bench && $(ORACLE)/oracle bench-cases $(ORACLE)/bench $(SEED) 2000
 	@for case in $(ORACLE)/bench/*.in; do $(BENCH) < $$case > $${case%.in}.got || exit 1; done
 	@$(ORACLE)/oracle bench-compare $(ORACLE)/bench
