@@ -25,7 +25,7 @@ nextOf n =
 
 -- the values are 16-bit words, as they are in the code
 abbrev pub EndHoldsWords : Ending → Type 0
-EndHoldsWords (Done o) = o .value < 65536
+EndHoldsWords (Done o) = (o .value < 65536) × (o .second < 65536)
 EndHoldsWords (Failed f) = Unit {0}
 
 abbrev pub HoldsWords : Next → Type 0

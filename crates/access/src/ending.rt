@@ -2,7 +2,7 @@
 ghost use mathlib.Core.Path.{_≡_};
 ghost use Prim.Native.Nat.{_/_, _%_};
 ghost use Rattle.access.specs.Numbers.{EndHoldsWords};
-ghost use Rattle.access.specs.Endings.{errorNumber, endingError, endingValue, endingExtra, extraPlace, wordsNumber, endingNumber, errorOf, endingOf, endingIn, isEnding, isPlain, failureOf, done, returned, failed, hasFailed, isDone};
+ghost use Rattle.access.specs.Endings.{errorNumber, endingError, endingValue, endingExtra, extraPlace, wordsNumber, endingNumber, errorOf, endingOf, endingIn, isEnding, isPlain, failureOf, done, returned, returnedBoth, failed, hasFailed, isDone};
 
 // The Rust's `Error`, and behind it the refusals that the port adds; 18 to 27 are for calls beside the Rust's. (The Rust's
 // `ZeroLengthTransfer`, 7, is never given.)
@@ -40,9 +40,11 @@ pub struct Failure {
     pub error: Error,
 }
 
-// What a call that is done returns: the bytes stored, the bytes left over or the command of a slave call, and else 0.
+// What a call that is done returns: the bytes stored, the bytes left over or the command of a slave call, and else 0. The second
+// number is a reply's: the bytes left over if a byte that the master did not take is not counted as sent.
 pub struct Outcome {
     pub value: u16,
+    pub second: u16,
 }
 
 pub enum Ending {
@@ -106,12 +108,12 @@ pub fn ending_value(ending: Ending) -> u16
     }
 }
 
-// What else there is to know: nothing yet.
+// What else there is to know: the second number that is returned.
 pub fn ending_extra(ending: Ending) -> u16
     ensures { λ r. ⌜ r ≡ endingExtra ending ⌝ }
 {
     match ending {
-        Ending::Done(_) => 0,
+        Ending::Done(outcome) => outcome.second,
         Ending::Failed(_) => 0,
     }
 }
@@ -178,7 +180,7 @@ fn ending_of(error: u8, value: u16, extra: u16) -> Ending
     ensures { λ r. ⌜ r ≡ endingOf error value extra ⌝ }
 {
     if error == 0 {
-        returned(value)
+        returned_both(value, extra)
     } else {
         failed(error_of(error))
     }
@@ -207,7 +209,7 @@ pub fn ending_in(number: u64) -> Ending
 pub fn is_plain(error: u8, value: u16, extra: u16) -> bool
     ensures { λ r. ⌜ r ≡ isPlain error value extra ⌝ }
 {
-    ((error == 0) | (value == 0)) & (extra == 0)
+    (error == 0) | ((value == 0) & (extra == 0))
 }
 
 // Whether these are the words of an ending. No error is number 7.
@@ -221,7 +223,7 @@ pub fn is_ending(error: u8, value: u16, extra: u16) -> bool
 pub fn is_done(error: u8, value: u16, extra: u16) -> bool
     ensures { λ r. ⌜ r ≡ isDone (endingOf error value extra) ⌝ }
 {
-    (error == 0) & (value == 0)
+    (error == 0) & ((value == 0) & (extra == 0))
 }
 
 // Whether these are the words of an error that was met once accesses began: 1 to 6.
@@ -248,7 +250,14 @@ pub fn done() -> Ending
 pub fn returned(value: u16) -> Ending
     ensures { λ r. ⌜ r ≡ returned value ⌝ }
 {
-    Ending::Done(Outcome { value })
+    returned_both(value, 0)
+}
+
+// Done, with a value and a second number.
+pub fn returned_both(value: u16, second: u16) -> Ending
+    ensures { λ r. ⌜ r ≡ returnedBoth value second ⌝ }
+{
+    Ending::Done(Outcome { value, second })
 }
 
 pub fn failed(error: Error) -> Ending

@@ -12,5 +12,5 @@ ending-of-spec =
     (λ c κs. search needs)
     (λ c κs. search needs)
     (λ c κs. search needs)
-    (λ c. rw (eq-eqb _ _ (c .before .if1 .taken), c .returned .ensures))
+    (λ c. rw (eq-eqb _ _ (c .before .if1 .taken), c .returned-both .ensures))
     (λ c. rw (ne-eqb _ _ (c .before .before .if1 .left), c .failed .ensures, c .before .error-of .ensures)))

@@ -1,0 +1,15 @@
+-- `access::ending::ending_in` meets its contract.
+-- Assumes nothing.
+use borrow.Author.Needs.{needs}
+use Rattle.access.proofs.ending.ending_in.Statement.{statement}
+use Rattle.access.proofs.ending.ending_in.Tie as tie
+
+pub ending-in-spec : {M : Type 1} → statement M
+ending-in-spec =
+    tie.close
+    (tie.spec
+    (λ c. search needs)
+    (λ c. search needs)
+    (λ c κs. search needs)
+    (λ c κs. search needs)
+    (λ c. rw (c .ending-of .ensures, c .before .extra-in .ensures)))
