@@ -51,6 +51,10 @@ error-back NoSuchDate = record { back = refl; above = omega arith; below = omega
 error-back WrongDate = record { back = refl; above = omega arith; below = omega arith }
 error-back MapLength = record { back = refl; above = omega arith; below = omega arith }
 
+-- what is done, by both its numbers
+pub both-same : {v u x y : ℕ} → v ≡ u → x ≡ y → returnedBoth v x ≡ returnedBoth u y
+both-same p q = λ i. returnedBoth (p i) (q i)
+
 -- what is not done, by its words
 abbrev failedBy : ℕ → ℕ → Ending
 failedBy n x = failed (errorOf n)
@@ -172,7 +176,5 @@ failed-told n v x h = met-range n h ∙ any-words n v x
 
 pub ended-done : (e : Ending) → isDone e ≡ true → e ≡ done
 ended-done (Done o) h =
-    let value = eqb-true (o .value) 0 (first-true (eqb (o .value) 0) (eqb (o .second) 0) h) in
-    let second = eqb-true (o .second) 0 (second-true (eqb (o .value) 0) (eqb (o .second) 0) h) in
-    λ i. returnedBoth (value i) (second i)
+    both-same (eqb-true (o .value) 0 (first-true (eqb (o .value) 0) (eqb (o .second) 0) h)) (eqb-true (o .second) 0 (second-true (eqb (o .value) 0) (eqb (o .second) 0) h))
 ended-done (Failed f) h = absurd (true≢false (sym h))

@@ -18,8 +18,9 @@ use Rattle.access.specs.declared.ending.Error.the-variants.{Timeout}
 use Rattle.access.specs.declared.ending.Failure.{Failure}
 use Rattle.access.specs.declared.ending.Ending.the-variants.{Failed}
 use Rattle.access.specs.declared.need.Need.the-variants as need
-use Rattle.access.specs.Endings.{returned, returnedBoth, failureOf}
+use Rattle.access.specs.Endings.{returned, failureOf}
 use Rattle.access.specs.Program.{Program, finish, access, keep, read, write, send, clock, spinFrom, late, checkTimeout}
+use Rattle.access.proofs.EndingLaws.{both-same}
 use Rattle.access.proofs.Agreement.{Agree, no-answers, ends, reads-first, reads, writes, asks, sends, drops, keeps, cases, cases-with, along, program-is}
 use Rattle.errors.specs.declared.Checked.{Checked}
 use Rattle.errors.specs.declared.Checked.the-variants as checked
@@ -226,11 +227,11 @@ module _ (g : Setting) (bytes : List ℕ) where
   reply-turns e l zero n at sent d = no-answers
   reply-turns e l (suc m) n at sent d =
       reads-first refl (λ a. along (ap (λ x. polls x (g .size) (counted (capped (g .size) sent) d) a) (sym e)) (cases-with (hasBit AF a)
-      (λ af. clear-af-agrees m n at last _ _ (λ v. ends _ (λ i. need.End (returnedBoth (left i) (second-lowered a af i)))))
+      (λ af. clear-af-agrees m n at last _ _ (λ v. ends _ (ap need.End (both-same left (second-lowered a af)))))
       (λ af. cases (hasBit STOPF a)
-      (clear-stopf-agrees m n at stopf.End last _ _ (λ v. ends _ (λ i. need.End (returnedBoth (taken a i) (second-stays a af i)))))
+      (clear-stopf-agrees m n at stopf.End last _ _ (λ v. ends _ (ap need.End (both-same (taken a) (second-stays a af)))))
       (cases (hasBit ADDR a)
-      (ends _ (λ i. need.End (returnedBoth (taken a i) (second-stays a af i))))
+      (ends _ (ap need.End (both-same (taken a) (second-stays a af))))
       (cases (hasBit TXE a)
       (sends (capped (g .size) sent) refl byte (λ _. along (ap (λ (x : ℕ). to Poll (counted x d)) (sym (capped-next (g .size) sent))) (reply-turns e l m n at (suc sent) d)))
       (check-errors-and-time-agrees m n at a _ _ (λ v. reply-turns e l m n at sent (saves v d))))))))
