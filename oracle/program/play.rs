@@ -88,6 +88,10 @@ impl Player {
         }
         let last = self.play_accesses(call, outcome, random, first)?;
         if let Some(end) = outcome.end {
+            let second = last >> 32 & 0xffff;
+            check(second == outcome.second as u64, || {
+                format!("the second count: {} by the words that the Rust was fed, the C library {second}", outcome.second)
+            })?;
             let last = ends::of_call(call, last);
             check(last == end as u64, || differs("the end", end as u64, last))?;
             self.check_critical(0, || "the end".into())?;
