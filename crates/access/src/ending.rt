@@ -2,7 +2,7 @@
 ghost use mathlib.Core.Path.{_≡_};
 ghost use Prim.Native.Nat.{_/_, _%_};
 ghost use Rattle.access.specs.Numbers.{EndHoldsWords};
-ghost use Rattle.access.specs.Endings.{errorNumber, endingError, endingValue, endingExtra, extraPlace, wordsNumber, endingNumber, errorOf, endingOf, endingIn, isEnding, isPlain, failureOf, done, returned, returnedBoth, failed, hasFailed, isDone};
+ghost use Rattle.access.specs.Endings.{errorNumber, endingError, endingValue, endingExtra, wordsNumber, endingNumber, errorOf, endingOf, endingIn, isEnding, isPlain, failureOf, done, returned, returnedBoth, failed, hasFailed, isDone};
 
 // The Rust's `Error`, and behind it the refusals that the port adds; 18 to 27 are for calls beside the Rust's. (The Rust's
 // `ZeroLengthTransfer`, 7, is never given.)
@@ -175,34 +175,17 @@ fn error_of(number: u8) -> Error
     }
 }
 
-// The ending of the words.
-fn ending_of(error: u8, value: u16, extra: u16) -> Ending
-    ensures { λ r. ⌜ r ≡ endingOf error value extra ⌝ }
-{
-    if error == 0 {
-        returned_both(value, extra)
-    } else {
-        failed(error_of(error))
-    }
-}
-
-fn extra_in(number: u64, error: u8) -> u16
-    ensures { λ r. ⌜ r ≡ number / extraPlace error % 65536 ⌝ }
-{
-    if error == 0 {
-        return (number / 4294967296 % 65536) as u16;
-    }
-    (number / 281474976710656 % 65536) as u16
-}
-
 // The ending of what C sees.
 pub fn ending_in(number: u64) -> Ending
     ensures { λ r. ⌜ r ≡ endingIn number ⌝ }
 {
     let error = (number / 256 % 256) as u8;
+    if error != 0 {
+        return failed(error_of(error));
+    }
     let value = (number / 65536 % 65536) as u16;
-    let extra = extra_in(number, error);
-    ending_of(error, value, extra)
+    let second = (number / 4294967296 % 65536) as u16;
+    returned_both(value, second)
 }
 
 // No word beside the number says what such an end has no use for: a call that fails returns nothing.
