@@ -469,6 +469,7 @@ demand-2 =
       enough = λ c block bytes a turns answers h. sym (accepted-ours c block bytes a turns answers h) ∙ accepted-ours c block bytes a (suc (length answers)) answers (omega arith);
       as-the-rust = as-the-rust;
       rusts = rusts;
+      counts = slaveIs.counts-as-the-rust;
       second = second;
       others = others;
       returns = returns;

@@ -70,6 +70,7 @@ use Rattle.slave.specs.Init as initSlaveMachine
 use Rattle.slave.specs.Calls.{SlaveLent, sizeOf, sizeRefusal, rustInit, rustSlave, oursSlave}
 use Rattle.slave.specs.Steps as slave
 use Rattle.slave.specs.Rust.{send-status}
+use Rattle.slave.specs.Claims.{CountsAsTheRust}
 use Rattle.slave.specs.Numbers.{commandNumber, statusNumber}
 use Rattle.slave_driver.specs.Lent as slaveLent
 use Rattle.images.specs.declared.init_image.InitFound.{InitFound}
@@ -414,7 +415,8 @@ pub record Demand2 : Type 0 where
   pub as-the-rust : (c : Call) (room turns : ℕ) (answers : List ℕ) → rust turns c room answers ≡ forgetting (endAsTheRust c) (ours turns c room answers)
   pub rusts : (c : Call) (block bytes : List ℕ) → Reads c bytes → Accepted c block bytes → (turns : ℕ) (answers : List ℕ) → length answers < turns
       → RecordsRust c block bytes answers (rust turns c (length bytes) answers)
-  -- it lacks a reply's second count, and of the first nothing is forgotten
+  -- it lacks a reply's second count, and of the first nothing is forgotten: without the second a reply IS the Rust's program
+  pub counts : CountsAsTheRust
   pub second : (chip : ℕ) (reply : List ℕ) (v x : ℕ) → endAsTheRust (respondToRead chip reply) (returnedBoth v x) ≡ returned v
   -- nothing is forgotten of any other end that no error check decided
   pub others : (c : Call) (e : Error) → endAsTheRust c (failed e) ≡ failed e

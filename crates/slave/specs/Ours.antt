@@ -22,7 +22,7 @@ pub record Counts : Type 0 where
   pub status : SendStatus
   pub second : SendStatus
 
--- the bytes sent, for the second: AF takes one off as STOPF and ADDR do, who have it off already
+-- the bytes sent, for the second: one is taken off at AF too; at STOPF and ADDR it is off already
 abbrev pub sent-for-second : Chip → ℕ → ℕ → ℕ
 sent-for-second chip star1 sent = cond (hasBit AF star1) (text.taken-off chip star1 sent) sent
 
