@@ -1,7 +1,7 @@
 //! Document 02's second count of a reply, kept beside the unchanged Rust from the words that it was fed: nothing here comes
 //! from the Rust. In it AF takes a byte off a positive sent count as STOPF and ADDR do, when TXE is clear in that word.
 
-use record::{kind, register, Call, Entry, Record, DATAR, STAR1, WRITE};
+use record::{kind, register, value, Call, Entry, Record, DATAR, STAR1, WRITE};
 
 const ADDR: u16 = 1 << 1;
 const STOPF: u16 = 1 << 4;
@@ -39,10 +39,15 @@ impl Closing {
         (self.word & AF != 0, self.word & TXE != 0, classes)
     }
 
-    /// How many of `length` bytes the master did not take.
-    fn left_over(self, length: usize) -> u16 {
-        let waits = self.word & TXE == 0 && self.sent > 0;
+    /// How many of `length` bytes are left over, where a byte that waits is taken off the count, or is not.
+    fn left_over(self, length: usize, takes_off: bool) -> u16 {
+        let waits = takes_off && self.word & TXE == 0 && self.sent > 0;
         length.saturating_sub(self.sent - waits as usize) as u16
+    }
+
+    /// Whether the Rust's own count, at the end that it gave, is of the bytes counted here. AF takes nothing off it.
+    pub fn is_of_the_rust(self, length: usize, end: u32) -> bool {
+        u32::from(self.left_over(length, self.word & AF == 0)) == value(end)
     }
 }
 
@@ -58,7 +63,7 @@ pub fn closing(call: &Call, record: &Record, end: Option<u32>) -> Option<Closing
 
 /// The second count of an end, and 0 where there is none.
 pub fn of_end(call: &Call, record: &Record, end: Option<u32>) -> u16 {
-    closing(call, record, end).map_or(0, |closing| closing.left_over(call.written.len()))
+    closing(call, record, end).map_or(0, |closing| closing.left_over(call.written.len(), true))
 }
 
 const SENT: [&str; 5] = ["0", "1", "the length", "the length + 1", "more"];
