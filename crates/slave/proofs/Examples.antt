@@ -104,6 +104,12 @@ padding-waits : slaveShown plain RespondToRead two waiting .end ≡ some (return
 unfolding slaveShown owed advance hasBit errorFlags
 padding-waits = refl
 
+-- ---- STOP finds the second byte of three waiting: it is off both counts
+
+stop-finds-it : slaveShown plain RespondToRead three (0x80 ∷ 0 ∷ 0x80 ∷ 0 ∷ 0x10 ∷ 0x90 ∷ 1 ∷ 0 ∷ []) .end ≡ some (returnedBoth 2 2)
+unfolding slaveShown owed advance hasBit errorFlags
+stop-finds-it = refl
+
 -- ---- two receives of one length that get other bytes
 
 abbrev one : SlaveLent

@@ -1,7 +1,7 @@
 -- Steps keep a state that fits, and a call begins with one.
 -- Assumes nothing.
 use mathlib.Core.Path.{_≡_, refl, sym}
-use mathlib.Core.Bool.{Bool, true, false, cond, not, _&&_, _||_, true≢false}
+use mathlib.Core.Bool.{Bool, true, false, cond, not, _&&_, true≢false}
 use Prim.Native.Nat.{ℕ, suc, pred, _+_, _*_, _≤_, _<_}
 use native.Mathlib.Omega.{arith}
 use borrow.Author.Tests.{lt-ltb, le-leb, leb-true, ltb-true}
