@@ -1,4 +1,5 @@
-/* What the driver does, seen on the wire: a simulated peripheral with an EEPROM at 0x50 and a temperature sensor at 0x48 behind it.
+/* What the driver does, seen on the wire: a simulated peripheral with an EEPROM at 0x50 and a temperature sensor at 0x48 behind it. At last it
+ * is a slave itself, at 0x42, and another master reads from it.
  * Usage: demo FILE.vcd [-v]. With -v each access is printed too. */
 #include "ch32_i2c_blocking.h"
 #include "port.h"
@@ -9,6 +10,7 @@
 
 #define EEPROM 0x50
 #define SENSOR 0x48
+#define GAUGE 0x42
 
 static struct eeprom eeprom;
 static struct sensor sensor;
@@ -186,6 +188,46 @@ static void refused(void)
     result(ch32_i2c_write(&port, 0x80, NULL, 0), CH32_I2C_INVALID_ADDRESS);
 }
 
+/* ---- a slave ---- */
+
+static void become_slave(void)
+{
+    struct ch32_i2c_slave_config config = {0};
+    config.address = GAUGE;
+    config.clock_stretching = 1;
+    call("init_slave: a gauge at 0x42");
+    result(ch32_i2c_init_slave(&port, &config), 0);
+}
+
+/* Another master reads some bytes of a queue. Hands back how many of the queue's it did not take. */
+static size_t read_by_another(const uint8_t *queue, size_t waiting, unsigned count, const char *what)
+{
+    struct ch32_i2c_slave_command command = {0, 0, 0};
+    uint64_t end;
+    call(what);
+    sim_other_master_reads(GAUGE, count);
+    result(ch32_i2c_listen(&port, &command), 0);
+    expect(command.command == CH32_I2C_COMMAND_READ && command.address == GAUGE, "a read of 0x42");
+    call("respond_to_read from the queue");
+    end = ch32_i2c_respond_to_read_whole(&port, queue, waiting);
+    result(ch32_i2c_end_of(end), 0);
+    printf("    left   of %u bytes %u by ch32-hal's count; %u were not taken\n", (unsigned)waiting, ch32_i2c_left_over_of(end),
+           ch32_i2c_not_taken_of(end));
+    return ch32_i2c_not_taken_of(end);
+}
+
+/* The master refuses the second byte while the third waits in the data register: the next reply has to begin with the third. */
+static void gauge(void)
+{
+    static const uint8_t queue[6] = {0x11, 0x22, 0x33, 0x44, 0x55, 0x66};
+    size_t left;
+    become_slave();
+    left = read_by_another(queue, sizeof queue, 2, "listen, while another master begins to read 2 bytes");
+    expect(left == 4, "four bytes were not taken");
+    left = read_by_another(queue + sizeof queue - left, left, 4, "listen, while it begins to read 4 more");
+    expect(left == 0, "all were taken; what waits is padding");
+}
+
 int main(int count, char **arguments)
 {
     if (count < 2) {
@@ -198,7 +240,7 @@ int main(int count, char **arguments)
     sensor_make(&sensor, SENSOR, 23.5);
     sim_attach(&eeprom.device);
     sim_attach(&sensor.device);
-    printf("An EEPROM at 0x50 and a temperature sensor at 0x48 behind a simulated CH32V I2C peripheral.\n");
+    printf("An EEPROM at 0x50 and a temperature sensor at 0x48 behind a simulated CH32V I2C peripheral. At the end it is a slave itself, a gauge at 0x42.\n");
     set_up();
     temperature("write-read from the sensor: its register 0");
     joined_writes();
@@ -210,6 +252,7 @@ int main(int count, char **arguments)
     late_twice();
     fast();
     refused();
+    gauge();
     sim_wait(1000000);
     vcd_close(sim_now());
     printf("\n%u calls, %s; waveform in %s\n", calls, wrong ? "SOME WRONG" : "all as expected", arguments[1]);

@@ -1,5 +1,5 @@
-/* The peripheral as a master, after the I2C chapter of the CH32V manual. Time passes with each access; between accesses the bus moves on by
- * itself, a piece (START, eight bits, the ninth bit, STOP) at a time. */
+/* The peripheral as a master, and as a slave that is read, after the I2C chapter of the CH32V manual. Time passes with each access; between
+ * accesses the bus moves on by itself, a piece (START, eight bits, the ninth bit, STOP) at a time. */
 #include "sim.h"
 
 #include "ch32_i2c.h"
@@ -11,8 +11,12 @@ enum { PE = 1, START = 0x100, STOP = 0x200, ACK = 0x400, POS = 0x800, SWRST = 0x
 enum { SB = 1, ADDR = 2, BTF = 4, RXNE = 0x40, TXE = 0x80, AF = 0x400, ERRORS = 0xdf00 };      /* STAR1 */
 enum { MSL = 1, BUSY = 2, TRA = 4 };                                                          /* STAR2 */
 
-/* FREE: nobody uses the bus. WAITING: it is ours, SCL is low, nothing moves. The others take time. */
-enum piece { FREE, WAITING, STARTING, ADDRESS_BITS, ADDRESS_ACK, SENDING_BITS, SENDING_ACK, RECEIVING_BITS, RECEIVING_ACK, STOPPING };
+/* FREE: nobody uses the bus. WAITING: it is ours, SCL is low, nothing moves. The others take time. Those of OTHER_ are another master's;
+ * in OTHER_WAITING we hold SCL low as a slave. */
+enum piece {
+    FREE, WAITING, STARTING, ADDRESS_BITS, ADDRESS_ACK, SENDING_BITS, SENDING_ACK, RECEIVING_BITS, RECEIVING_ACK, STOPPING,
+    OTHER_START, OTHER_ADDRESS, OTHER_ADDRESS_ACK, OTHER_WAITING, OTHER_BITS, OTHER_ACK, OTHER_STOP
+};
 
 static uint16_t reg[9];
 static enum piece piece;
@@ -206,13 +210,109 @@ static void end_piece(uint64_t t)
     }
 }
 
+/* ---- another master, which reads from us ---- */
+
+static unsigned other_address, other_left; /* whom it reads from; bytes that it still wants */
+
+static void other_acknowledges(enum piece p, uint64_t t, int acknowledges)
+{
+    acknowledged = acknowledges;
+    say(acknowledged ? "ACK " : "NACK ", 0);
+    wire_bit(t, !acknowledged);
+    take(p, t, 1);
+}
+
+static void other_stops(uint64_t t)
+{
+    wire_stop(t);
+    take(OTHER_STOP, t, 1);
+}
+
+/* SCL is low. A byte that was written to DATAR goes out; else we hold SCL. */
+static void other_goes_on(uint64_t t)
+{
+    piece = OTHER_WAITING;
+    if (!data_full)
+        return;
+    shift = data;
+    data_full = 0;
+    reg[CH32_I2C_STAR1] |= TXE;
+    wire_byte(t, shift);
+    take(OTHER_BITS, t, 8);
+}
+
+/* A piece of the other master's is over, at time t. A byte that waits in DATAR when it refuses the one before stays there, and TXE clear. */
+static void end_other_piece(uint64_t t)
+{
+    uint16_t *status = &reg[CH32_I2C_STAR1], *status2 = &reg[CH32_I2C_STAR2];
+    switch (piece) {
+    case OTHER_START:
+        say("START ", 0);
+        *status2 |= BUSY;
+        lines(t, 0, sda);
+        wire_byte(t, other_address << 1 | 1);
+        take(OTHER_ADDRESS, t, 8);
+        break;
+    case OTHER_ADDRESS:
+        say("[%02x+R] ", other_address);
+        other_acknowledges(OTHER_ADDRESS_ACK, t, reg[CH32_I2C_CTLR1] & ACK && (reg[CH32_I2C_OADDR1] >> 1 & 0x7f) == other_address);
+        break;
+    case OTHER_ADDRESS_ACK:
+        lines(t, 0, sda);
+        if (!acknowledged) {
+            other_stops(t);
+            break;
+        }
+        *status |= ADDR;
+        *status2 |= TRA;
+        status_read = 0;
+        piece = OTHER_WAITING;
+        break;
+    case OTHER_BITS:
+        say("%02x ", shift);
+        other_acknowledges(OTHER_ACK, t, --other_left > 0);
+        break;
+    case OTHER_ACK:
+        lines(t, 0, sda);
+        if (acknowledged) {
+            other_goes_on(t);
+        } else {
+            *status |= AF;
+            other_stops(t);
+        }
+        break;
+    default: /* OTHER_STOP */
+        say("STOP ", 0);
+        *status2 &= (uint16_t) ~(BUSY | TRA);
+        sending = data_full = 0;
+        piece = FREE;
+    }
+    piece_ended = t;
+}
+
+void sim_other_master_reads(unsigned address, unsigned count)
+{
+    other_address = address;
+    other_left = count;
+    wire_start(now);
+    take(OTHER_START, now, 1);
+}
+
 /* Lets the bus catch up with the time. */
 static void run(void)
 {
     for (;;) {
         uint64_t t = piece_end > asked ? piece_end : asked;
         enum piece was = piece;
-        if (piece == FREE || piece == WAITING) {
+        if (piece == OTHER_WAITING) {
+            if (reg[CH32_I2C_STAR1] & ADDR || !data_full)
+                return;
+            other_goes_on(t);
+        } else if (piece >= OTHER_START) {
+            if (piece_end > now)
+                return;
+            end_other_piece(piece_end);
+        } else if (piece == FREE || piece == WAITING) {
             uint64_t held = selected && selected->holds_scl_until > t ? selected->holds_scl_until : t;
             if (held > now)
                 return;

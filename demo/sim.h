@@ -1,4 +1,4 @@
-/* A simulated CH32V I2C peripheral as master, the bus behind it, and two devices. Times are in nanoseconds. */
+/* A simulated CH32V I2C peripheral, the bus behind it, two devices and another master. Times are in nanoseconds. */
 #ifndef SIM_H
 #define SIM_H
 
@@ -54,6 +54,9 @@ uint16_t sim_read(void *unused, unsigned number);
 void sim_write(void *unused, unsigned number, uint16_t value);
 uint64_t sim_now(void);
 void sim_wait(uint64_t time);
+
+/* Another master begins to read so many bytes from a slave with this address, and refuses the last. */
+void sim_other_master_reads(unsigned address, unsigned count);
 
 /* What happened on the wire since this was last asked: START, [address+direction], ACK or NACK, bytes, STOP; notes in brackets ( ). */
 const char *sim_wire(void);

@@ -152,8 +152,13 @@ static inline int ch32_i2c_is_done(uint64_t next) { return (next & 0xffffu) == 0
 /* At the end of respond_to_write, with 0: how many bytes were stored. */
 static inline unsigned ch32_i2c_stored_of(uint64_t next) { return (unsigned)(next >> 16 & 0xffffu); }
 
-/* At the end of respond_to_read, with 0: how many bytes the master did not take. */
+/* At the end of respond_to_read, with 0: how many bytes were left over, as ch32-hal counts them. A byte that waits in the data register when
+ * the master refuses the one before it counts as sent here. */
 static inline unsigned ch32_i2c_left_over_of(uint64_t next) { return (unsigned)(next >> 16 & 0xffffu); }
+
+/* At the end of respond_to_read, with 0: how many bytes the master did not take, that one included. Reload a queue from this count. 0 at
+ * every other end, and at an access. */
+static inline unsigned ch32_i2c_not_taken_of(uint64_t next) { return ch32_i2c_is_done(next) ? (unsigned)(next >> 32 & 0xffffu) : 0u; }
 
 /* At the end of listen, with 0: one of enum ch32_i2c_command, the address that was matched, and whether it has ten bits. */
 static inline unsigned ch32_i2c_command_of(uint64_t next) { return (unsigned)(next >> 28 & 3u); }
@@ -226,7 +231,8 @@ uint64_t ch32_i2c_listen_step(uint8_t *block, size_t block_length, uint16_t answ
 uint64_t ch32_i2c_respond_to_write_begin(uint8_t *block, size_t block_length, uint8_t chip, uint8_t *buffer, size_t buffer_length);
 uint64_t ch32_i2c_respond_to_write_step(uint8_t *block, size_t block_length, uint8_t *buffer, size_t buffer_length, uint16_t answer);
 
-/* Sends until the master has enough; ends with the number of bytes left over. Past the data 00 is sent. Refusals: 16 (chip), 8. */
+/* Sends until the master has enough; ends with the number of bytes left over, twice: as ch32-hal counts (ch32_i2c_left_over_of), and by
+ * what the master took (ch32_i2c_not_taken_of). Past the data 00 is sent. Refusals: 16 (chip), 8. */
 uint64_t ch32_i2c_respond_to_read_begin(uint8_t *block, size_t block_length, uint8_t chip, const uint8_t *data, size_t data_length);
 uint64_t ch32_i2c_respond_to_read_step(uint8_t *block, size_t block_length, const uint8_t *data, size_t data_length, uint16_t answer);
 

@@ -4,7 +4,14 @@
  * functions of ch32_i2c.h hand out.
  *
  * The master calls are those of ch32-hal: ch32_i2c_transaction is blocking_transaction, and so on. Each returns the end: 0
- * (CH32_I2C_DONE) or another of enum ch32_i2c_end. */
+ * (CH32_I2C_DONE) or another of enum ch32_i2c_end.
+ *
+ * Each call stands here twice. The one whose name ends in _whole returns the whole last number, from which the functions of ch32_i2c.h tell
+ * all that there is to know of the end:
+ *
+ *     const uint64_t end = ch32_i2c_respond_to_read_whole(&port, data, n);
+ *     if (ch32_i2c_end_of(end) == CH32_I2C_DONE)
+ *         requeue(data + n - ch32_i2c_not_taken_of(end), ch32_i2c_not_taken_of(end)); */
 #ifndef CH32_I2C_BLOCKING_H
 #define CH32_I2C_BLOCKING_H
 
@@ -193,57 +200,90 @@ static inline uint64_t ch32_i2c_step_respond_to_read(struct ch32_i2c_lent *l, ui
 /* ---- The calls of a master ---- */
 
 /* Resets the peripheral and sets its clock; both frequencies in hertz. */
-static inline unsigned ch32_i2c_init(const struct ch32_i2c_port *port, uint32_t input, uint32_t frequency, uint8_t duty)
+static inline uint64_t ch32_i2c_init_whole(const struct ch32_i2c_port *port, uint32_t input, uint32_t frequency, uint8_t duty)
 {
     struct ch32_i2c_lent l = ch32_i2c_lend(port, NULL, 0, NULL, 0, NULL, 0);
     uint64_t next = ch32_i2c_init_begin(l.block, sizeof l.block, port->chip, input, frequency, duty);
-    return ch32_i2c_end_of(ch32_i2c_carry_out(port, next, ch32_i2c_step_init, &l));
+    return ch32_i2c_carry_out(port, next, ch32_i2c_step_init, &l);
+}
+static inline unsigned ch32_i2c_init(const struct ch32_i2c_port *port, uint32_t input, uint32_t frequency, uint8_t duty)
+{
+    return ch32_i2c_end_of(ch32_i2c_init_whole(port, input, frequency, duty));
 }
 
 /* The list is made with ch32_i2c_put_operation. */
-static inline unsigned ch32_i2c_transaction(const struct ch32_i2c_port *port, uint8_t address, const uint8_t *list, size_t list_length,
-                                            const uint8_t *written, size_t written_length, uint8_t *read, size_t read_length)
+static inline uint64_t ch32_i2c_transaction_whole(const struct ch32_i2c_port *port, uint8_t address, const uint8_t *list,
+                                                  size_t list_length, const uint8_t *written, size_t written_length, uint8_t *read,
+                                                  size_t read_length)
 {
     struct ch32_i2c_lent l = ch32_i2c_lend(port, list, list_length, written, written_length, read, read_length);
     uint64_t next = ch32_i2c_transaction_begin(l.block, sizeof l.block, port->chip, address, list, list_length, written, written_length,
                                                read, read_length);
-    return ch32_i2c_end_of(ch32_i2c_carry_out(port, next, ch32_i2c_step_transaction, &l));
+    return ch32_i2c_carry_out(port, next, ch32_i2c_step_transaction, &l);
+}
+static inline unsigned ch32_i2c_transaction(const struct ch32_i2c_port *port, uint8_t address, const uint8_t *list, size_t list_length,
+                                            const uint8_t *written, size_t written_length, uint8_t *read, size_t read_length)
+{
+    return ch32_i2c_end_of(ch32_i2c_transaction_whole(port, address, list, list_length, written, written_length, read, read_length));
 }
 
-static inline unsigned ch32_i2c_write_read(const struct ch32_i2c_port *port, uint8_t address, const uint8_t *written,
-                                           size_t written_length, uint8_t *read, size_t read_length)
+static inline uint64_t ch32_i2c_write_read_whole(const struct ch32_i2c_port *port, uint8_t address, const uint8_t *written,
+                                                 size_t written_length, uint8_t *read, size_t read_length)
 {
     struct ch32_i2c_lent l = ch32_i2c_lend(port, NULL, 0, written, written_length, read, read_length);
     uint64_t next = ch32_i2c_write_read_begin(l.block, sizeof l.block, port->chip, address, written, written_length, read, read_length);
-    return ch32_i2c_end_of(ch32_i2c_carry_out(port, next, ch32_i2c_step_write_read, &l));
+    return ch32_i2c_carry_out(port, next, ch32_i2c_step_write_read, &l);
+}
+static inline unsigned ch32_i2c_write_read(const struct ch32_i2c_port *port, uint8_t address, const uint8_t *written,
+                                           size_t written_length, uint8_t *read, size_t read_length)
+{
+    return ch32_i2c_end_of(ch32_i2c_write_read_whole(port, address, written, written_length, read, read_length));
 }
 
 /* A frame: see enum ch32_i2c_option. */
-static inline unsigned ch32_i2c_write_frame(const struct ch32_i2c_port *port, uint8_t address, uint8_t option, const uint8_t *written,
-                                            size_t written_length)
+static inline uint64_t ch32_i2c_write_frame_whole(const struct ch32_i2c_port *port, uint8_t address, uint8_t option,
+                                                  const uint8_t *written, size_t written_length)
 {
     struct ch32_i2c_lent l = ch32_i2c_lend(port, NULL, 0, written, written_length, NULL, 0);
     uint64_t next = ch32_i2c_write_begin(l.block, sizeof l.block, port->chip, address, option, written, written_length);
-    return ch32_i2c_end_of(ch32_i2c_carry_out(port, next, ch32_i2c_step_write, &l));
+    return ch32_i2c_carry_out(port, next, ch32_i2c_step_write, &l);
+}
+static inline unsigned ch32_i2c_write_frame(const struct ch32_i2c_port *port, uint8_t address, uint8_t option, const uint8_t *written,
+                                            size_t written_length)
+{
+    return ch32_i2c_end_of(ch32_i2c_write_frame_whole(port, address, option, written, written_length));
 }
 
-static inline unsigned ch32_i2c_read_frame(const struct ch32_i2c_port *port, uint8_t address, uint8_t option, uint8_t *read,
-                                           size_t read_length)
+static inline uint64_t ch32_i2c_read_frame_whole(const struct ch32_i2c_port *port, uint8_t address, uint8_t option, uint8_t *read,
+                                                 size_t read_length)
 {
     struct ch32_i2c_lent l = ch32_i2c_lend(port, NULL, 0, NULL, 0, read, read_length);
     uint64_t next = ch32_i2c_read_begin(l.block, sizeof l.block, port->chip, address, option, read, read_length);
-    return ch32_i2c_end_of(ch32_i2c_carry_out(port, next, ch32_i2c_step_read, &l));
+    return ch32_i2c_carry_out(port, next, ch32_i2c_step_read, &l);
+}
+static inline unsigned ch32_i2c_read_frame(const struct ch32_i2c_port *port, uint8_t address, uint8_t option, uint8_t *read,
+                                           size_t read_length)
+{
+    return ch32_i2c_end_of(ch32_i2c_read_frame_whole(port, address, option, read, read_length));
 }
 
 /* A whole transfer: one frame, first and last. */
+static inline uint64_t ch32_i2c_write_whole(const struct ch32_i2c_port *port, uint8_t address, const uint8_t *written, size_t written_length)
+{
+    return ch32_i2c_write_frame_whole(port, address, CH32_I2C_FIRST_AND_LAST_FRAME, written, written_length);
+}
 static inline unsigned ch32_i2c_write(const struct ch32_i2c_port *port, uint8_t address, const uint8_t *written, size_t written_length)
 {
-    return ch32_i2c_write_frame(port, address, CH32_I2C_FIRST_AND_LAST_FRAME, written, written_length);
+    return ch32_i2c_end_of(ch32_i2c_write_whole(port, address, written, written_length));
 }
 
+static inline uint64_t ch32_i2c_read_whole(const struct ch32_i2c_port *port, uint8_t address, uint8_t *read, size_t read_length)
+{
+    return ch32_i2c_read_frame_whole(port, address, CH32_I2C_FIRST_AND_LAST_FRAME, read, read_length);
+}
 static inline unsigned ch32_i2c_read(const struct ch32_i2c_port *port, uint8_t address, uint8_t *read, size_t read_length)
 {
-    return ch32_i2c_read_frame(port, address, CH32_I2C_FIRST_AND_LAST_FRAME, read, read_length);
+    return ch32_i2c_end_of(ch32_i2c_read_whole(port, address, read, read_length));
 }
 
 /* ---- The calls of a slave ---- */
@@ -258,12 +298,16 @@ struct ch32_i2c_slave_config {
 };
 
 /* After ch32_i2c_init. An address that UM10204 reserves is refused (17) before any access. */
-static inline unsigned ch32_i2c_init_slave(const struct ch32_i2c_port *port, const struct ch32_i2c_slave_config *config)
+static inline uint64_t ch32_i2c_init_slave_whole(const struct ch32_i2c_port *port, const struct ch32_i2c_slave_config *config)
 {
     struct ch32_i2c_lent l = ch32_i2c_lend(port, NULL, 0, NULL, 0, NULL, 0);
     uint64_t next = ch32_i2c_init_slave_begin(l.block, sizeof l.block, config->ten_bit, config->address, config->has_second,
                                               config->second, config->general_call, config->clock_stretching);
-    return ch32_i2c_end_of(ch32_i2c_carry_out(port, next, ch32_i2c_step_init_slave, &l));
+    return ch32_i2c_carry_out(port, next, ch32_i2c_step_init_slave, &l);
+}
+static inline unsigned ch32_i2c_init_slave(const struct ch32_i2c_port *port, const struct ch32_i2c_slave_config *config)
+{
+    return ch32_i2c_end_of(ch32_i2c_init_slave_whole(port, config));
 }
 
 struct ch32_i2c_slave_command {
@@ -273,40 +317,53 @@ struct ch32_i2c_slave_command {
 };
 
 /* Waits for a master. *command is set at an end with 0 alone. */
-static inline unsigned ch32_i2c_listen(const struct ch32_i2c_port *port, struct ch32_i2c_slave_command *command)
+static inline uint64_t ch32_i2c_listen_whole(const struct ch32_i2c_port *port)
 {
     struct ch32_i2c_lent l = ch32_i2c_lend(port, NULL, 0, NULL, 0, NULL, 0);
     uint64_t next = ch32_i2c_listen_begin(l.block, sizeof l.block, port->chip);
-    next = ch32_i2c_carry_out(port, next, ch32_i2c_step_listen, &l);
-    if (ch32_i2c_end_of(next) == CH32_I2C_DONE) {
-        command->command = ch32_i2c_command_of(next);
-        command->address = ch32_i2c_command_address_of(next);
-        command->ten_bit = ch32_i2c_command_ten_bit_of(next);
+    return ch32_i2c_carry_out(port, next, ch32_i2c_step_listen, &l);
+}
+static inline unsigned ch32_i2c_listen(const struct ch32_i2c_port *port, struct ch32_i2c_slave_command *command)
+{
+    const uint64_t end = ch32_i2c_listen_whole(port);
+    if (ch32_i2c_end_of(end) == CH32_I2C_DONE) {
+        command->command = ch32_i2c_command_of(end);
+        command->address = ch32_i2c_command_address_of(end);
+        command->ten_bit = ch32_i2c_command_ten_bit_of(end);
     }
-    return ch32_i2c_end_of(next);
+    return ch32_i2c_end_of(end);
 }
 
 /* After a command to write, or a general call. *stored is set at an end with 0 alone. */
-static inline unsigned ch32_i2c_respond_to_write(const struct ch32_i2c_port *port, uint8_t *buffer, size_t buffer_length, size_t *stored)
+static inline uint64_t ch32_i2c_respond_to_write_whole(const struct ch32_i2c_port *port, uint8_t *buffer, size_t buffer_length)
 {
     struct ch32_i2c_lent l = ch32_i2c_lend(port, NULL, 0, NULL, 0, buffer, buffer_length);
     uint64_t next = ch32_i2c_respond_to_write_begin(l.block, sizeof l.block, port->chip, buffer, buffer_length);
-    next = ch32_i2c_carry_out(port, next, ch32_i2c_step_respond_to_write, &l);
-    if (ch32_i2c_end_of(next) == CH32_I2C_DONE)
-        *stored = ch32_i2c_stored_of(next);
-    return ch32_i2c_end_of(next);
+    return ch32_i2c_carry_out(port, next, ch32_i2c_step_respond_to_write, &l);
+}
+static inline unsigned ch32_i2c_respond_to_write(const struct ch32_i2c_port *port, uint8_t *buffer, size_t buffer_length, size_t *stored)
+{
+    const uint64_t end = ch32_i2c_respond_to_write_whole(port, buffer, buffer_length);
+    if (ch32_i2c_end_of(end) == CH32_I2C_DONE)
+        *stored = ch32_i2c_stored_of(end);
+    return ch32_i2c_end_of(end);
 }
 
-/* After a command to read. *left_over is set at an end with 0 alone. */
-static inline unsigned ch32_i2c_respond_to_read(const struct ch32_i2c_port *port, const uint8_t *data, size_t data_length,
-                                                size_t *left_over)
+/* After a command to read. *left_over is ch32-hal's count, set at an end with 0 alone. ch32_i2c_not_taken_of tells from the whole end how
+ * many bytes the master did not take. */
+static inline uint64_t ch32_i2c_respond_to_read_whole(const struct ch32_i2c_port *port, const uint8_t *data, size_t data_length)
 {
     struct ch32_i2c_lent l = ch32_i2c_lend(port, NULL, 0, data, data_length, NULL, 0);
     uint64_t next = ch32_i2c_respond_to_read_begin(l.block, sizeof l.block, port->chip, data, data_length);
-    next = ch32_i2c_carry_out(port, next, ch32_i2c_step_respond_to_read, &l);
-    if (ch32_i2c_end_of(next) == CH32_I2C_DONE)
-        *left_over = ch32_i2c_left_over_of(next);
-    return ch32_i2c_end_of(next);
+    return ch32_i2c_carry_out(port, next, ch32_i2c_step_respond_to_read, &l);
+}
+static inline unsigned ch32_i2c_respond_to_read(const struct ch32_i2c_port *port, const uint8_t *data, size_t data_length,
+                                                size_t *left_over)
+{
+    const uint64_t end = ch32_i2c_respond_to_read_whole(port, data, data_length);
+    if (ch32_i2c_end_of(end) == CH32_I2C_DONE)
+        *left_over = ch32_i2c_left_over_of(end);
+    return ch32_i2c_end_of(end);
 }
 
 #ifdef __cplusplus

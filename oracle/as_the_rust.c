@@ -1,9 +1,9 @@
 #include "as_the_rust.h"
 
-/* The library has no more than the Rust today. */
+/* The Rust has no second number at an end with 0. */
 uint64_t as_the_rust(uint8_t chip, uint8_t master, uint64_t end)
 {
     (void)chip;
     (void)master;
-    return end;
+    return (end & 0xffff) == 0 ? end & ~((uint64_t)0xffff << 32) : end;
 }

@@ -84,7 +84,7 @@ $(FAULT_RESULTS): $(ORACLE)/faults/%/result: oracle/faults/%.patch $(HAL) $(ORAC
 # Faults in the library, by functions that the linker puts before its own.
 LIBRARY_FAULTS = $(shell sed -n 's/^\#ifdef FAULT_//p' oracle/faults/library.c)
 LIBRARY_RESULTS = $(LIBRARY_FAULTS:%=$(ORACLE)/library-faults/%/result)
-WRAPPED = init_begin init_slave_begin write_begin write_step read_step transaction_step listen_step is_critical
+WRAPPED = $(shell grep -o '^uint64_t __wrap_ch32_i2c_[a-z_]*' oracle/faults/library.c | sed 's/.*__wrap_ch32_i2c_//')
 WRAPS = $(WRAPPED:%=-C link-arg=-Wl,--wrap=ch32_i2c_%)
 
 $(LIBRARY_RESULTS): $(ORACLE)/library-faults/%/result: oracle/faults/library.c $(ORACLE)/liboracle.rlib $(CHIP_LIBS) $(ORACLE)/as_the_rust.o $(CH32_LIB)

@@ -11,6 +11,8 @@ uint64_t __real_ch32_i2c_read_step(uint8_t *, size_t, uint8_t *, size_t, uint16_
 uint64_t __real_ch32_i2c_transaction_step(uint8_t *, size_t, const uint8_t *, size_t, const uint8_t *, size_t, uint8_t *, size_t, uint16_t);
 uint64_t ch32_i2c_init_step(uint8_t *, size_t, uint16_t);
 uint64_t __real_ch32_i2c_listen_step(uint8_t *, size_t, uint16_t);
+uint64_t __real_ch32_i2c_respond_to_write_step(uint8_t *, size_t, uint8_t *, size_t, uint16_t);
+uint64_t __real_ch32_i2c_respond_to_read_step(uint8_t *, size_t, const uint8_t *, size_t, uint16_t);
 uint64_t __real_ch32_i2c_is_critical(const uint8_t *, size_t);
 
 #define REFUSED_STEP ((uint64_t)15 << 8)
@@ -126,6 +128,34 @@ uint64_t __wrap_ch32_i2c_listen_step(uint8_t *block, size_t n, uint16_t answer)
 #ifdef FAULT_step_of_another_entry_accepted
     if (next == REFUSED_STEP)
         next = ch32_i2c_init_step(block, n, answer);
+#endif
+    return next;
+}
+
+uint64_t __wrap_ch32_i2c_respond_to_write_step(uint8_t *block, size_t n, uint8_t *buffer, size_t length, uint16_t answer)
+{
+    uint64_t next = __real_ch32_i2c_respond_to_write_step(block, n, buffer, length, answer);
+#ifdef FAULT_second_count_of_a_receive
+    if ((next & 0xffff) == 0)
+        next |= next >> 16 << 32;
+#endif
+    return next;
+}
+
+uint64_t __wrap_ch32_i2c_respond_to_read_step(uint8_t *block, size_t n, const uint8_t *data, size_t length, uint16_t answer)
+{
+    uint64_t next = __real_ch32_i2c_respond_to_read_step(block, n, data, length, answer);
+#ifdef FAULT_second_count_as_the_first
+    if ((next & 0xffff) == 0)
+        next = (next & 0xffff0000) | (next & 0xffff0000) << 16;
+#endif
+#ifdef FAULT_second_count_for_the_first
+    if ((next & 0xffff) == 0)
+        next = next >> 32 << 32 | next >> 32 << 16;
+#endif
+#ifdef FAULT_second_count_lost_at_once
+    if ((next & 0xffff) == 0)
+        next &= 0xffffffff;
 #endif
     return next;
 }

@@ -16,6 +16,7 @@ use std::time::Instant;
 
 use oracle::generate::{Generator, Sizes};
 use oracle::random::Random;
+use oracle::second::Compared;
 use oracle::{rust, sample_file, text};
 use record::{Call, Entry, Given, Record, ENTRIES};
 use rust::Outcome;
@@ -73,7 +74,14 @@ fn made_call(seed: u64, entry: Entry, chip: u8, number: u64, record: Record) -> 
 }
 
 /// Compares the calls of one entry on one chip. `Err` holds the number of calls up to the first difference.
-fn compare(seed: u64, calls: u64, entry: Entry, chip: u8, player: &mut Player) -> Result<Tally, u64> {
+fn compare(
+    seed: u64,
+    calls: u64,
+    entry: Entry,
+    chip: u8,
+    player: &mut Player,
+    seconds: &mut Compared,
+) -> Result<Tally, u64> {
     let mut tally = Tally::default();
     let mut record = Record::default();
     for number in 0..calls {
@@ -84,6 +92,7 @@ fn compare(seed: u64, calls: u64, entry: Entry, chip: u8, player: &mut Player) -
             println!("again: compare replay {seed} {} {chip} {number}", entry.name());
             return Err(number + 1);
         }
+        seconds.add(&call, &outcome.record, outcome.end);
         record = outcome.record;
     }
     Ok(tally)
@@ -92,11 +101,12 @@ fn compare(seed: u64, calls: u64, entry: Entry, chip: u8, player: &mut Player) -
 fn compare_all(seed: u64, calls: u64, entries: &[Entry], chips: &[u8]) {
     let mut player = Player::default();
     let mut total = Tally::default();
+    let mut seconds = Compared::default();
     let began = Instant::now();
     let mut done = 0;
     for entry in entries {
         for chip in chips {
-            match compare(seed, calls, *entry, *chip, &mut player) {
+            match compare(seed, calls, *entry, *chip, &mut player, &mut seconds) {
                 Ok(tally) => {
                     println!(
                         "{:16} chip {chip}: {} calls, {} accesses, 0 differences; ends {}",
@@ -121,6 +131,7 @@ fn compare_all(seed: u64, calls: u64, entries: &[Entry], chips: &[u8]) {
             done += calls;
         }
     }
+    check_seconds(&seconds);
     println!(
         "{} calls, {} accesses, {} refused steps tried, 0 differences, {:.1} s",
         total.calls,
@@ -128,6 +139,17 @@ fn compare_all(seed: u64, calls: u64, entries: &[Entry], chips: &[u8]) {
         player.refused_steps,
         began.elapsed().as_secs_f64()
     );
+}
+
+/// Where there are many replies, none of the cases of the second count may be missing.
+fn check_seconds(seconds: &Compared) {
+    if seconds.replies > 0 {
+        println!("{}", seconds.text());
+    }
+    if seconds.replies >= 10_000 && !seconds.is_whole() {
+        println!("a case of the second count was not met");
+        exit(1);
+    }
 }
 
 /// All entries and chips by turns, up to the first difference.

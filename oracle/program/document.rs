@@ -1,12 +1,12 @@
-//! Document 01's edges, as it gives them, and document 02's reserved addresses, looked up in what the Rust does behind
-//! the added causes. Answers are 0 where none are given.
+//! Document 01's edges, as it gives them, and document 02's reserved addresses and second counts, looked up in what the
+//! Rust does behind the added causes, with the count kept beside it. Answers are 0 where none are given.
 
 use record::{Given, Record};
 
 use crate::{rust, text};
 
 /// A call, and a line that is to be in its record.
-const EDGES: [(&str, &str); 32] = [
+const EDGES: [(&str, &str); 37] = [
     ("entry=init input=36000000 frequency=100000", "w,CKCFGR,00b4"),
     ("entry=init input=36000000 frequency=400000", "w,CKCFGR,801e"),
     ("entry=init input=36000000 frequency=400000 duty=1", "w,CKCFGR,c004"),
@@ -41,10 +41,22 @@ const EDGES: [(&str, &str); 32] = [
         "end,0,6",
     ),
     ("entry=transaction", "end,0,0"),
-    ("entry=respond_to_read written=0102 answers=008000800400", "end,0,4"),
+    // AF: the Rust counts what waits in the data register as sent, and the second count doesn't.
+    ("entry=respond_to_read written=0102 answers=008000800400", "end,0,4,second 0001"),
+    ("entry=respond_to_read written=0102 answers=008000800480", "end,0,4"),
+    ("entry=respond_to_read written=0102 answers=0080008000800400", "end,0,5"),
+    ("entry=respond_to_read written=0102 answers=0400", "end,0,2,value 0002,second 0002"),
+    (
+        "entry=respond_to_read written=0102 answers=00800400",
+        "end,0,3,value 0001,second 0002",
+    ),
     (
         "entry=respond_to_read written=0102 answers=00800080001000000000",
-        "end,0,5,value 0001",
+        "end,0,5,value 0001,second 0001",
+    ),
+    (
+        "entry=respond_to_read written=0102 answers=008000800002",
+        "end,0,3,value 0001,second 0001",
     ),
 ];
 

@@ -1,4 +1,5 @@
-//! Calls that belong in the sample whatever chance brings: document 01's edges, its traps, and boundary lengths.
+//! Calls that belong in the sample whatever chance brings: document 01's edges, its traps, document 02's second count, and
+//! boundary lengths.
 
 use record::{Answers, Call, Entry, Given};
 
@@ -23,6 +24,7 @@ pub fn all(random: &mut Random) -> Vec<WithAnswers> {
         edges.own_addresses(chip);
         edges.status_words(chip);
         edges.traps(chip);
+        edges.second_counts(chip);
         edges.refused(chip);
         edges.boundary_lengths(chip);
     }
@@ -174,6 +176,22 @@ impl Edges<'_> {
         let mut call = on_chip(Entry::Read, chip);
         (call.address, call.option, call.read) = (0x50, 3, vec![0; 2]);
         self.given(call, &[1, 0x40, 0, 0, 0, 0x40, 0x1234, 0, 0x40, 0xff56]);
+    }
+
+    /// Replies that end by each flag, with TXE clear and set and what was sent around the length. The next word shows TXE
+    /// the other way.
+    fn second_counts(&mut self, chip: u8) {
+        for length in 0..3 {
+            for sent in 0..length + 3 {
+                for status in [0x400, 0x480, 0x10, 0x90, 2, 0x82] {
+                    let mut call = on_chip(Entry::RespondToRead, chip);
+                    call.written = vec![0; length];
+                    let mut answers = vec![0x80; sent];
+                    answers.extend([status, status ^ 0x80, 1]);
+                    self.given(call, &answers);
+                }
+            }
+        }
     }
 
     /// Every number of refusal, and which comes first.

@@ -12,4 +12,5 @@ pub mod random;
 pub mod rust;
 pub mod sample;
 pub mod sample_file;
+pub mod second;
 pub mod text;

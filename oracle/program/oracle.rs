@@ -154,9 +154,8 @@ fn check_sample(path: &str) {
             used: 0,
         });
         let again = rust::run(&sampled.call, Record::default(), answers, false);
-        let same =
-            again.record.accesses == stored.record.accesses && again.end == stored.end && again.read == stored.read;
-        if !same {
+        let same_record = again.record.accesses == stored.record.accesses && again.read == stored.read;
+        if !(same_record && again.end == stored.end && again.second == stored.second) {
             println!(
                 "call {number} differs: {}",
                 text::call_line(&sampled.call, &stored.record.answers)

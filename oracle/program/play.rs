@@ -3,6 +3,7 @@
 use oracle::ends;
 use oracle::random::Random;
 use oracle::rust::{end_number, Outcome};
+use oracle::second;
 use oracle::text::number_text;
 use record::{kind, Call, Entry, ENTRIES, WRITE};
 
@@ -88,6 +89,13 @@ impl Player {
         }
         let last = self.play_accesses(call, outcome, random, first)?;
         if let Some(end) = outcome.end {
+            let closing = second::closing(call, &outcome.record, outcome.end);
+            let is_kept = closing.is_none_or(|closing| closing.is_of_the_rust(call.written.len(), end));
+            check(is_kept, || "the Rust's count is not of the bytes that were sent".into())?;
+            let second = last >> 32 & 0xffff;
+            check(second == outcome.second as u64, || {
+                format!("the second count: {} by the words that the Rust was fed, the C library {second}", outcome.second)
+            })?;
             let last = ends::of_call(call, last);
             check(last == end as u64, || differs("the end", end as u64, last))?;
             self.check_critical(0, || "the end".into())?;

@@ -6,7 +6,7 @@ use std::sync::OnceLock;
 
 use record::{Answers, Call, Entry, OutOfAnswers, Record};
 
-use crate::causes;
+use crate::{causes, second};
 
 /// The carried Rust, built for each chip.
 pub type Chips = [fn(&Call, &mut [u8]) -> (u8, u16); 4];
@@ -19,10 +19,12 @@ pub fn use_chips(chips: Chips) {
     std::panic::set_hook(Box::new(|_| {}))
 }
 
-/// What a call comes to: its record, its end as the C library's number (none for an open call) and the read bytes.
+/// What a call comes to: its record, its end as the C library's number (none for an open call), the second count beside
+/// it and the read bytes.
 pub struct Outcome {
     pub record: Record,
     pub end: Option<u32>,
+    pub second: u16,
     pub read: Vec<u8>,
     pub panic: Option<String>,
 }
@@ -62,6 +64,7 @@ pub fn run_rust(call: &Call, record: Record, answers: Box<dyn Answers>, with_pla
         Err(payload) => (None, Some(message(payload))),
     };
     Outcome {
+        second: second::of_end(call, &record, end),
         record,
         end,
         read,
@@ -91,6 +94,7 @@ pub fn run(call: &Call, mut record: Record, answers: Box<dyn Answers>, with_plac
         return Outcome {
             record,
             end: Some(end_number(cause, 0)),
+            second: 0,
             read: call.read.clone(),
             panic: None,
         };

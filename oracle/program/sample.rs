@@ -10,6 +10,7 @@ use crate::generate::{Generator, Sizes};
 use crate::random::Random;
 use crate::rust::{self, Outcome};
 use crate::sample_file::{encode, Sampled, MAGIC};
+use crate::second;
 
 /// A call in the sample: its bytes in the file and what it shows.
 pub struct Chosen {
@@ -78,6 +79,9 @@ fn ways(call: &Call, outcome: &Outcome) -> Vec<u64> {
         before = here;
     }
     features.push(feature((who, "last", before, end)));
+    if let Some(closing) = second::closing(call, record, outcome.end) {
+        features.push(feature((who, "closing", closing.class(call.written.len()))));
+    }
     let errors = record
         .answers
         .iter()

@@ -5,7 +5,7 @@ use record::{kind, register, value, Call, Record, CLOCK, ENTRIES, READ, WRITE};
 use crate::rust::Outcome;
 use crate::text::arrived;
 
-pub const MAGIC: &[u8; 8] = b"ch32i2c1";
+pub const MAGIC: &[u8; 8] = b"ch32i2c2";
 
 /// Byte `place` of lent bytes with this seed.
 pub fn rule(seed: u8, place: usize) -> u8 {
@@ -73,6 +73,7 @@ pub fn encode(sampled: &Sampled, outcome: &Outcome) -> Vec<u8> {
     if let Some(end) = outcome.end {
         bytes.extend([0, (end >> 8) as u8]);
         bytes.extend((value(end) as u16).to_le_bytes());
+        bytes.extend(outcome.second.to_le_bytes());
     }
     let arrived = arrived(outcome);
     bytes.extend((arrived as u16).to_le_bytes());
@@ -122,20 +123,20 @@ fn get_call(bytes: &mut Cursor<'_>) -> Sampled {
     Sampled::new(call, written_seed, read_seed)
 }
 
-/// The record up to its end; `None` for an open call.
-fn get_record(bytes: &mut Cursor<'_>) -> (Record, Option<u32>) {
+/// The record up to its end, and the end with its second count; `None` for an open call.
+fn get_record(bytes: &mut Cursor<'_>) -> (Record, Option<u32>, u16) {
     let mut record = Record::default();
     loop {
         let code = bytes.number(1);
         if code == 0 {
-            let end = bytes.number(1) << 8;
-            return (record, Some(end | bytes.number(2) << 16));
+            let end = bytes.number(1) << 8 | bytes.number(2) << 16;
+            return (record, Some(end), bytes.number(2) as u16);
         }
         let access = code >> 4 & 3 | (code & 15) << 8;
         if code & 0x40 != 0 {
             record.accesses.push(access);
             record.open = true;
-            return (record, None);
+            return (record, None, 0);
         }
         let word = bytes.number(2);
         match code >> 4 {
@@ -153,7 +154,7 @@ fn decode_one(bytes: &mut Cursor<'_>) -> (Sampled, Outcome) {
     let length = bytes.number(4) as usize;
     let mut one = Cursor(bytes.take(length - 4));
     let sampled = get_call(&mut one);
-    let (record, end) = get_record(&mut one);
+    let (record, end, second) = get_record(&mut one);
     let arrived = one.number(2) as usize;
     let mut read = sampled.call.read.clone();
     read[..arrived].copy_from_slice(one.take(arrived));
@@ -161,6 +162,7 @@ fn decode_one(bytes: &mut Cursor<'_>) -> (Sampled, Outcome) {
     let outcome = Outcome {
         record,
         end,
+        second,
         read,
         panic: None,
     };

@@ -110,7 +110,12 @@ pub fn access_line(access: u32, answer: Option<u16>) -> String {
 /// What the C library's number says.
 pub fn number_text(number: u64) -> String {
     match number & 0xff {
-        0 => format!("end {} value {:04x}", number >> 8 & 0xff, number >> 16),
+        0 => format!(
+            "end {} value {:04x} second {:04x}",
+            number >> 8 & 0xff,
+            number >> 16 & 0xffff,
+            number >> 32
+        ),
         1..=3 if number >> 8 & 0xff < 9 && number >> 32 == 0 => access_line(number as u32, None),
         _ => format!("no such number {number:016x}"),
     }
@@ -153,6 +158,9 @@ pub fn record_text(outcome: &Outcome) -> String {
     write!(text, "end,{end},{}", record.answers.len()).unwrap();
     if value != 0 {
         write!(text, ",value {value:04x}").unwrap();
+    }
+    if outcome.second != 0 {
+        write!(text, ",second {:04x}", outcome.second).unwrap();
     }
     text.push('\n');
     text

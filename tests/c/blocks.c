@@ -84,7 +84,7 @@ static void at_every_state(void (*visit)(void))
             for (i = 0; i < WALK_LENGTH && ch32_i2c_kind_of(next) != CH32_I2C_KIND_END; i++) {
                 visit();
                 next = step(&c, some_answer(&c, next));
-                check(well_formed(next), "%s: got %#llx on a walk", entry_names[e], (unsigned long long)next);
+                check(well_formed(c.entry, next), "%s: got %#llx on a walk", entry_names[e], (unsigned long long)next);
             }
         }
 }
@@ -238,7 +238,7 @@ static void refused_or_a_state(unsigned byte, unsigned value)
         return;
     }
     for (i = 0; i < 8; i++) {
-        check(well_formed(next), "%s: byte %u as %#x: got %#llx", entry_names[c.entry], byte, value, (unsigned long long)next);
+        check(well_formed(tried.entry, next), "%s: byte %u as %#x: got %#llx", entry_names[c.entry], byte, value, (unsigned long long)next);
         if (ch32_i2c_kind_of(next) == CH32_I2C_KIND_END)
             return;
         check(tried.block[0] == c.block[0], "%s: byte %u as %#x: another tag", entry_names[c.entry], byte, value);
@@ -347,7 +347,7 @@ void test_after_the_end(void)
                 refused_step("after the end, another entry", ch32_i2c_end_of(next));
             }
             next = begin(&c); /* and the block serves again */
-            check(well_formed(next) && ch32_i2c_end_of(next) <= CH32_I2C_RTR, "%s: begin again", entry_names[e]);
+            check(well_formed(c.entry, next) && ch32_i2c_end_of(next) <= CH32_I2C_RTR, "%s: begin again", entry_names[e]);
         }
     check(ends == 0x7f, "ends met: %#x", ends);
 }
@@ -391,7 +391,7 @@ void test_random_calls(void)
         next = begin(&c);
         for (i = 0; i < 300; i++) {
             size_t j, changed = 0;
-            if (!check(well_formed(next), "%s: got %#llx", entry_names[c.entry], (unsigned long long)next) ||
+            if (!check(well_formed(c.entry, next), "%s: got %#llx", entry_names[c.entry], (unsigned long long)next) ||
                 ch32_i2c_kind_of(next) == CH32_I2C_KIND_END)
                 break;
             payload = next == (CH32_I2C_KIND_READ | CH32_I2C_DATAR << 8);

@@ -142,10 +142,10 @@ uint16_t some_answer(const struct call *c, uint64_t next)
     }
 }
 
-int well_formed(uint64_t next)
+int well_formed(enum entry entry, uint64_t next)
 {
     unsigned kind = ch32_i2c_kind_of(next), number = ch32_i2c_register_of(next);
-    if (next >> 32)
+    if (next >> (entry == RESPOND_TO_READ && ch32_i2c_is_done(next) ? 48 : 32))
         return 0;
     switch (kind) {
     case CH32_I2C_KIND_END:

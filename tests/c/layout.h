@@ -22,7 +22,7 @@ static const struct {
     {0xeffcfcb6u, 3, 9}, /* init_slave */
     {0xff3cff44u, 3, 11}, /* listen */
     {0xfc3cff44u, 3, 11}, /* respond_to_write */
-    {0xf83cff44u, 3, 11}, /* respond_to_read */
+    {0x383cff44u, 3, 11}, /* respond_to_read */
 };
 
 static const struct {

@@ -412,7 +412,7 @@ void test_limits(void)
             uint16_t answer = some_answer(&c, next);                                                                                      \
             next = STEP;                                                                                                                  \
         }                                                                                                                                 \
-        check(well_formed(next), "null: got %#llx", (unsigned long long)next);                                                            \
+        check(well_formed(LISTEN, next), "null: got %#llx", (unsigned long long)next);                                                    \
     } while (0)
 
 void test_null(void)

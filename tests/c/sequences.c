@@ -20,6 +20,8 @@ void test_header(void)
               ch32_i2c_value_of(0x12340502) == 0x1234,
           "a write taken apart");
     check(ch32_i2c_end_of(0x0300) == CH32_I2C_NACK && !ch32_i2c_is_done(0x0300) && !ch32_i2c_is_done(1), "an end taken apart");
+    check(ch32_i2c_not_taken_of(0xffff00070000) == 65535 && ch32_i2c_left_over_of(0xffff00070000) == 7, "the second count");
+    check(ch32_i2c_not_taken_of(0x000300000300) == 0 && ch32_i2c_not_taken_of(0x000300000502) == 0, "no second count at an error or an access");
     check(ch32_i2c_is_done(0xffff0000) && ch32_i2c_stored_of(0xffff0000) == 65535 && ch32_i2c_left_over_of(0x00070000) == 7, "counts");
     check(ch32_i2c_command_of(command) == CH32_I2C_COMMAND_READ && ch32_i2c_command_address_of(command) == 0x2a5 &&
               ch32_i2c_command_ten_bit_of(command) == 1 && ch32_i2c_command_ten_bit_of((uint64_t)0x2042 << 16) == 0 &&
@@ -279,14 +281,14 @@ static void slaves(void)
     plain_call(&c, RESPOND_TO_READ);
     c.written_length = 4;
     follow(&c, "respond_to_read, AF", "r,STAR1,0080\nw,DATAR,0031\nr,STAR1,0080\nw,DATAR,0032\nr,STAR1,0000\nc,clock,0000\n"
-                                      "r,STAR1,0400\nr,STAR1,ffff\nw,STAR1,fbff\nend,0,0002");
+                                      "r,STAR1,0400\nr,STAR1,ffff\nw,STAR1,fbff\nend,0,00030002");
     plain_call(&c, RESPOND_TO_READ);
     c.written_length = 4;
     follow(&c, "respond_to_read, STOPF with TXE clear", "r,STAR1,0080\nw,DATAR,0031\nr,STAR1,0080\nw,DATAR,0032\n"
-                                                        "r,STAR1,0010\nr,STAR1,0080\nr,CTLR1,0401\nw,CTLR1,0401\nend,0,0003");
+                                                        "r,STAR1,0010\nr,STAR1,0080\nr,CTLR1,0401\nw,CTLR1,0401\nend,0,00030003");
     plain_call(&c, RESPOND_TO_READ);
     c.written_length = 4;
-    follow(&c, "respond_to_read, ADDR with TXE set", "r,STAR1,0080\nw,DATAR,0031\nr,STAR1,0082\nend,0,0003");
+    follow(&c, "respond_to_read, ADDR with TXE set", "r,STAR1,0080\nw,DATAR,0031\nr,STAR1,0082\nend,0,00030003");
     plain_call(&c, RESPOND_TO_READ);
     c.written_length = 1;
     follow(&c, "respond_to_read, padding",
@@ -353,9 +355,9 @@ static void noise(void)
                "r,STAR1,a0ad\nc,clock,0000\nr,STAR1,ffff\nr,DATAR,ff01\nr,STAR1,ffbf\nr,STAR1,ffff\nr,CTLR1,ffff\nw,CTLR1,ffff\nend,0,0001");
     noisy_call(RESPOND_TO_WRITE, "respond_to_write with noise, ADDR", 0, 2, "r,STAR1,ffaf\nend,0,0000");
     noisy_call(RESPOND_TO_READ, "respond_to_read with noise", 0, 2,
-               "r,STAR1,a06d\nc,clock,0000\nr,STAR1,fbed\nw,DATAR,0031\nr,STAR1,fb7f\nr,STAR1,0000\nr,CTLR1,0000\nw,CTLR1,0000\nend,0,0002");
-    noisy_call(RESPOND_TO_READ, "respond_to_read with noise, AF", 0, 2, "r,STAR1,0080\nw,DATAR,0031\nr,STAR1,ff7f\nr,STAR1,0000\nw,STAR1,0000\nend,0,0001");
-    noisy_call(RESPOND_TO_READ, "respond_to_read with noise, ADDR", 0, 2, "r,STAR1,0080\nw,DATAR,0031\nr,STAR1,fb6f\nend,0,0002");
+               "r,STAR1,a06d\nc,clock,0000\nr,STAR1,fbed\nw,DATAR,0031\nr,STAR1,fb7f\nr,STAR1,0000\nr,CTLR1,0000\nw,CTLR1,0000\nend,0,00020002");
+    noisy_call(RESPOND_TO_READ, "respond_to_read with noise, AF", 0, 2, "r,STAR1,0080\nw,DATAR,0031\nr,STAR1,ff7f\nr,STAR1,0000\nw,STAR1,0000\nend,0,00020001");
+    noisy_call(RESPOND_TO_READ, "respond_to_read with noise, ADDR", 0, 2, "r,STAR1,0080\nw,DATAR,0031\nr,STAR1,fb6f\nend,0,00020002");
     plain_call(&c, INIT_SLAVE);
     c.general_call = 1;
     c.clock_stretching = 0;

@@ -9,12 +9,11 @@ use borrow.Author.Tests.{eqb-true, ne-eqb, lt-ltb}
 use Rattle.access.specs.declared.ending.Error.{Error}
 use Rattle.access.specs.declared.ending.Error.the-variants.{Bus, Arbitration, Nack, Timeout, Crc, Overrun, BufferTooLong, InvalidAddress, InvalidFrequency, DividerTooLarge, InputTooSlow, TooManyOperations, LengthMismatch, InvalidState, InvalidArgument, ReservedAddress, BlockLength, WrongCode, NoSuchSpeed, NoAllowance, TooManyBuses, TooManyItems, NoOrder, NoSuchDate, WrongDate, MapLength}
 use Rattle.access.specs.declared.ending.Failure.{Failure}
-use Rattle.access.specs.declared.ending.Outcome.{Outcome}
 use Rattle.access.specs.declared.ending.Ending.{Ending}
 use Rattle.access.specs.declared.ending.Ending.the-variants.{Done, Failed}
-use Rattle.access.specs.Endings.{errorNumber, errorOf, failureOf, done, returned, failed, endingError, endingValue, endingExtra, extraPlace, wordsNumber, endingNumber, endingOf, endingIn, isEnding, isPlain, isDone, hasFailed}
+use Rattle.access.specs.Endings.{errorNumber, errorOf, failureOf, done, returnedBoth, failed, endingError, endingValue, endingExtra, extraPlace, wordsNumber, endingNumber, endingOf, endingIn, isEnding, isPlain, isDone, hasFailed}
 use Rattle.access.specs.Numbers.{EndHoldsWords}
-use Rattle.access.proofs.Choice.{when-true, when-false, second-true}
+use Rattle.access.proofs.Choice.{when-true, when-false, first-true, second-true}
 use Rattle.access.proofs.Bytes.{bytes}
 use Rattle.access.proofs.Compared.{turned, itself}
 
@@ -52,6 +51,10 @@ error-back NoSuchDate = record { back = refl; above = omega arith; below = omega
 error-back WrongDate = record { back = refl; above = omega arith; below = omega arith }
 error-back MapLength = record { back = refl; above = omega arith; below = omega arith }
 
+-- what is done, by both its numbers
+pub both-same : {v u x y : ℕ} → v ≡ u → x ≡ y → returnedBoth v x ≡ returnedBoth u y
+both-same p q = λ i. returnedBoth (p i) (q i)
+
 -- what is not done, by its words
 abbrev failedBy : ℕ → ℕ → Ending
 failedBy n x = failed (errorOf n)
@@ -61,7 +64,7 @@ ending-back (Done o) = refl
 ending-back (Failed f) =
     let n = errorNumber (f .error) in
     let b = error-back (f .error) in
-    sym (when-false (returned 0) (failedBy n 0) (ne-eqb n 0 (λ z. omega (arith, b .above, z)))) ∙ ap failed (b .back)
+    sym (when-false (returnedBoth 0 0) (failedBy n 0) (ne-eqb n 0 (λ z. omega (arith, b .above, z)))) ∙ ap failed (b .back)
 
 -- ---- the words in C's number
 
@@ -70,15 +73,15 @@ error-below (Done o) = omega arith
 error-below (Failed f) = error-back (f .error) .below
 
 pub value-below : (e : Ending) → EndHoldsWords e → endingValue e < 65536
-value-below (Done o) h = h
+value-below (Done o) h = h .0
 value-below (Failed f) h = omega arith
 
 pub extra-below : (e : Ending) → EndHoldsWords e → endingExtra e < 65536
-extra-below (Done o) h = omega arith
+extra-below (Done o) h = h .1
 extra-below (Failed f) h = omega arith
 
 pub words-hold : (e : Ending) → endingValue e < 65536 → endingExtra e < 65536 → EndHoldsWords e
-words-hold (Done o) h k = h
+words-hold (Done o) h k = (h, k)
 words-hold (Failed f) h k = tt
 
 module _ (n v x : ℕ) (h : n < 256) (l : v < 65536) (k : x < 65536) where
@@ -124,7 +127,7 @@ unfolding isEnding
 ending-range n v x h = go (eqb n 0) refl
   where
     go : (b : Bool) → eqb n 0 ≡ b → eqb (endingError (endingOf n v x)) n && (eqb (endingValue (endingOf n v x)) v && eqb (endingExtra (endingOf n v x)) x) ≡ (not (eqb n 7) && ltb n 28) && isPlain n v x
-    go true e = rw (eqb-true n 0 e, itself v, turned 0 x)
+    go true e = rw (eqb-true n 0 e, itself v, itself x)
     go false e = rw (e, error-range n h, e, turned 0 v, turned 0 x)
 
 -- words that are an end's say nothing that it has no use for; and so do others whose number is small
@@ -136,7 +139,7 @@ ending-plain n v x e = go (eqb n 0) refl
     rest = second-true (eqb (endingError (endingOf n v x)) n) (eqb (endingValue (endingOf n v x)) v && eqb (endingExtra (endingOf n v x)) x) e
 
     go : (b : Bool) → eqb n 0 ≡ b → isPlain n v x ≡ true
-    go true z = rw z (turned x 0 ∙ second-true (eqb v v) (eqb 0 x) (rw z at rest))
+    go true z = rw z
     go false z = let r : eqb 0 v && eqb 0 x ≡ true = rw z at rest in rw (z, turned v 0, turned x 0) r
 
 pub plain-ending : (n v x : ℕ) → n ≤ 6 → isPlain n v x ≡ true → isEnding n v x ≡ true
@@ -144,24 +147,24 @@ plain-ending n v x h e = ending-range n v x (omega (arith, h)) ∙ rw (ne-eqb n 
 
 -- ---- an end by its words: by 0 one that is done, by another number one that failed
 
-pub as-returned : (P : Ending → Type 0) (n v x : ℕ) → eqb n 0 ≡ true → ((o : Outcome) → o .value ≡ v → P (Done o)) → P (endingOf n v x)
-as-returned P n v x z p = subst P (when-true (returned v) (failedBy n x) z) (p (record { value = v }) refl)
+pub as-returned : (P : Ending → Type 0) (n v x : ℕ) → eqb n 0 ≡ true → P (returnedBoth v x) → P (endingOf n v x)
+as-returned P n v x z p = subst P (when-true (returnedBoth v x) (failedBy n x) z) p
 
 pub as-failed : (P : Ending → Type 0) (n v x : ℕ) → eqb n 0 ≡ false → ((f : Failure) → P (Failed f)) → P (endingOf n v x)
-as-failed P n v x z p = subst P (when-false (returned v) (failedBy n x) z) (p (failureOf (errorOf n)))
+as-failed P n v x z p = subst P (when-false (returnedBoth v x) (failedBy n x) z) (p (failureOf (errorOf n)))
 
 -- done with nothing to return, or an error from 1 to 6
-pub done-told : (n v x : ℕ) → eqb n 0 && eqb v 0 ≡ isDone (endingOf n v x)
+pub done-told : (n v x : ℕ) → eqb n 0 && (eqb v 0 && eqb x 0) ≡ isDone (endingOf n v x)
 done-told n v x = go (eqb n 0)
   where
-    go : (b : Bool) → b && eqb v 0 ≡ isDone (cond b (returned v) (failedBy n x))
+    go : (b : Bool) → b && (eqb v 0 && eqb x 0) ≡ isDone (cond b (returnedBoth v x) (failedBy n x))
     go true = refl
     go false = refl
 
 any-words : (n v x : ℕ) → hasFailed (endingOf n 0 0) ≡ hasFailed (endingOf n v x)
 any-words n v x = go (eqb n 0)
   where
-    go : (b : Bool) → hasFailed (cond b (returned 0) (failedBy n 0)) ≡ hasFailed (cond b (returned v) (failedBy n x))
+    go : (b : Bool) → hasFailed (cond b (returnedBoth 0 0) (failedBy n 0)) ≡ hasFailed (cond b (returnedBoth v x) (failedBy n x))
     go true = refl
     go false = refl
 
@@ -172,5 +175,6 @@ pub failed-told : (n v x : ℕ) → n < 256 → ltb 0 n && leb n 6 ≡ hasFailed
 failed-told n v x h = met-range n h ∙ any-words n v x
 
 pub ended-done : (e : Ending) → isDone e ≡ true → e ≡ done
-ended-done (Done o) h = ap returned (eqb-true (o .value) 0 h)
+ended-done (Done o) h =
+    both-same (eqb-true (o .value) 0 (first-true (eqb (o .value) 0) (eqb (o .second) 0) h)) (eqb-true (o .second) 0 (second-true (eqb (o .value) 0) (eqb (o .second) 0) h))
 ended-done (Failed f) h = absurd (true≢false (sym h))

@@ -39,9 +39,12 @@ errorNumber MapLength = 27
 abbrev pub failureOf : Error → Failure
 failureOf e = record { error = e }
 
--- done, with what is returned; done, with nothing to return; not done
+-- done, with two numbers, with one, and with nothing to return; not done
+abbrev pub returnedBoth : ℕ → ℕ → Ending
+returnedBoth v x = Done (record { value = v; second = x })
+
 abbrev pub returned : ℕ → Ending
-returned v = Done (record { value = v })
+returned v = returnedBoth v 0
 
 abbrev pub done : Ending
 done = returned 0
@@ -50,7 +53,7 @@ abbrev pub failed : Error → Ending
 failed e = Failed (failureOf e)
 
 -- AN END IN WORDS, for C's number and for the block of a call: the number of its error, or 0; the value that it returns; and one number more,
--- in which an end says what else there is to know. No end has anything there yet.
+-- in which an end says what else there is to know: the second number of one that is done. An error has nothing there yet.
 abbrev pub endingError : Ending → ℕ
 endingError (Done o) = 0
 endingError (Failed f) = errorNumber (f .error)
@@ -60,7 +63,7 @@ endingValue (Done o) = o .value
 endingValue (Failed f) = 0
 
 abbrev pub endingExtra : Ending → ℕ
-endingExtra (Done o) = 0
+endingExtra (Done o) = o .second
 endingExtra (Failed f) = 0
 
 -- what C sees of it: the number in bits 8 to 15, the value in bits 16 to 31; the extra number in bits 32 to 47 of an end with 0, and in bits
@@ -104,7 +107,7 @@ errorOf n =
     (cond (eqb n 26) WrongDate MapLength))))))))))))))))))))))))
 
 abbrev pub endingOf : ℕ → ℕ → ℕ → Ending
-endingOf n v x = cond (eqb n 0) (returned v) (failed (errorOf n))
+endingOf n v x = cond (eqb n 0) (returnedBoth v x) (failed (errorOf n))
 
 -- the ending of what C sees
 abbrev pub endingIn : ℕ → Ending
@@ -116,7 +119,7 @@ isEnding n v x = eqb (endingError (endingOf n v x)) n && (eqb (endingValue (endi
 
 -- no word beside the number says what such an end has no use for
 abbrev pub isPlain : ℕ → ℕ → ℕ → Bool
-isPlain n v x = (eqb n 0 || eqb v 0) && eqb x 0
+isPlain n v x = eqb n 0 || (eqb v 0 && eqb x 0)
 
 -- an error that can be met once accesses began: 1 to 6
 abbrev pub isMet : Error → Bool
@@ -128,5 +131,5 @@ hasFailed (Failed f) = isMet (f .error)
 
 -- done, with nothing to return
 abbrev pub isDone : Ending → Bool
-isDone (Done o) = eqb (o .value) 0
+isDone (Done o) = eqb (o .value) 0 && eqb (o .second) 0
 isDone (Failed f) = false

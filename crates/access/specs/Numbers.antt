@@ -1,5 +1,5 @@
 -- What C sees of what is handed out: the kind in bits 0 to 7 (0 end, 1 read, 2 write, 3 question to the clock), the register or the
--- end's number in bits 8 to 15, the value in bits 16 to 31.
+-- end's number in bits 8 to 15, the value in bits 16 to 31; what else an end says stands behind (`wordsNumber`, Endings.antt).
 use Prim.Native.Nat.{ℕ, _+_, _*_, _/_, _%_, _<_}
 use mathlib.Core.Bool.{cond}
 use lib.Dec.{eqb}
@@ -25,7 +25,7 @@ nextOf n =
 
 -- the values are 16-bit words, as they are in the code
 abbrev pub EndHoldsWords : Ending → Type 0
-EndHoldsWords (Done o) = o .value < 65536
+EndHoldsWords (Done o) = (o .value < 65536) × (o .second < 65536)
 EndHoldsWords (Failed f) = Unit {0}
 
 abbrev pub HoldsWords : Next → Type 0

@@ -2,7 +2,7 @@
 ghost use mathlib.Core.Path.{_≡_};
 ghost use Prim.Native.Nat.{_/_, _%_};
 ghost use Rattle.access.specs.Numbers.{EndHoldsWords};
-ghost use Rattle.access.specs.Endings.{errorNumber, endingError, endingValue, endingExtra, extraPlace, wordsNumber, endingNumber, errorOf, endingOf, endingIn, isEnding, isPlain, failureOf, done, returned, failed, hasFailed, isDone};
+ghost use Rattle.access.specs.Endings.{errorNumber, endingError, endingValue, endingExtra, wordsNumber, endingNumber, errorOf, endingOf, endingIn, isEnding, isPlain, failureOf, done, returned, returnedBoth, failed, hasFailed, isDone};
 
 // The Rust's `Error`, and behind it the refusals that the port adds; 18 to 27 are for calls beside the Rust's. (The Rust's
 // `ZeroLengthTransfer`, 7, is never given.)
@@ -40,9 +40,11 @@ pub struct Failure {
     pub error: Error,
 }
 
-// What a call that is done returns: the bytes stored, the bytes left over or the command of a slave call, and else 0.
+// What a call that is done returns: the bytes stored, the bytes left over or the command of a slave call, and else 0. The second
+// number is a reply's: the bytes left over if a byte that the master did not take is not counted as sent.
 pub struct Outcome {
     pub value: u16,
+    pub second: u16,
 }
 
 pub enum Ending {
@@ -106,12 +108,12 @@ pub fn ending_value(ending: Ending) -> u16
     }
 }
 
-// What else there is to know: nothing yet.
+// What else there is to know: the second number that is returned.
 pub fn ending_extra(ending: Ending) -> u16
     ensures { λ r. ⌜ r ≡ endingExtra ending ⌝ }
 {
     match ending {
-        Ending::Done(_) => 0,
+        Ending::Done(outcome) => outcome.second,
         Ending::Failed(_) => 0,
     }
 }
@@ -173,41 +175,24 @@ fn error_of(number: u8) -> Error
     }
 }
 
-// The ending of the words.
-fn ending_of(error: u8, value: u16, extra: u16) -> Ending
-    ensures { λ r. ⌜ r ≡ endingOf error value extra ⌝ }
-{
-    if error == 0 {
-        returned(value)
-    } else {
-        failed(error_of(error))
-    }
-}
-
-fn extra_in(number: u64, error: u8) -> u16
-    ensures { λ r. ⌜ r ≡ number / extraPlace error % 65536 ⌝ }
-{
-    if error == 0 {
-        return (number / 4294967296 % 65536) as u16;
-    }
-    (number / 281474976710656 % 65536) as u16
-}
-
 // The ending of what C sees.
 pub fn ending_in(number: u64) -> Ending
     ensures { λ r. ⌜ r ≡ endingIn number ⌝ }
 {
     let error = (number / 256 % 256) as u8;
+    if error != 0 {
+        return failed(error_of(error));
+    }
     let value = (number / 65536 % 65536) as u16;
-    let extra = extra_in(number, error);
-    ending_of(error, value, extra)
+    let second = (number / 4294967296 % 65536) as u16;
+    returned_both(value, second)
 }
 
 // No word beside the number says what such an end has no use for: a call that fails returns nothing.
 pub fn is_plain(error: u8, value: u16, extra: u16) -> bool
     ensures { λ r. ⌜ r ≡ isPlain error value extra ⌝ }
 {
-    ((error == 0) | (value == 0)) & (extra == 0)
+    (error == 0) | ((value == 0) & (extra == 0))
 }
 
 // Whether these are the words of an ending. No error is number 7.
@@ -221,7 +206,7 @@ pub fn is_ending(error: u8, value: u16, extra: u16) -> bool
 pub fn is_done(error: u8, value: u16, extra: u16) -> bool
     ensures { λ r. ⌜ r ≡ isDone (endingOf error value extra) ⌝ }
 {
-    (error == 0) & (value == 0)
+    (error == 0) & ((value == 0) & (extra == 0))
 }
 
 // Whether these are the words of an error that was met once accesses began: 1 to 6.
@@ -248,7 +233,14 @@ pub fn done() -> Ending
 pub fn returned(value: u16) -> Ending
     ensures { λ r. ⌜ r ≡ returned value ⌝ }
 {
-    Ending::Done(Outcome { value })
+    returned_both(value, 0)
+}
+
+// Done, with a value and a second number.
+pub fn returned_both(value: u16, second: u16) -> Ending
+    ensures { λ r. ⌜ r ≡ returnedBoth value second ⌝ }
+{
+    Ending::Done(Outcome { value, second })
 }
 
 pub fn failed(error: Error) -> Ending

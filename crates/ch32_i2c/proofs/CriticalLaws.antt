@@ -17,8 +17,9 @@ use Rattle.access.proofs.Bytes.{bytes}
 use Rattle.access.proofs.Compared.{itself, turned, joined, with-true}
 use Rattle.stage_numbers.proofs.MasterStageRanges.{half-range}
 use Rattle.images.specs.declared.master_image.MasterFound.the-variants.{At, Nothing}
-use Rattle.access.specs.Endings.{isEnding}
+use Rattle.access.specs.Endings.{isEnding, isDone}
 use Rattle.images.specs.Numbers.{flagAt}
+use Rattle.images.specs.EndImage.{endingAt}
 use Rattle.images.specs.MasterImage.{masterFields, masterOf, masterIn, isCall}
 use Rattle.images.proofs.MasterImageRanges.{image-ranges}
 use Rattle.master_call.specs.CallStep.{isCallOf}
@@ -82,19 +83,24 @@ picked : (t : Bool) (s : State) → isCriticalIn (cond t (At s) Nothing) ≡ t &
 picked true s = refl
 picked false s = refl
 
-reordered : (c s e r k : Bool) → (c && e) && (r && (s && k)) ≡ (c && (s && e)) && (r && k)
-reordered true true true r k = refl
-reordered true false true true k = refl
-reordered true false true false k = refl
-reordered true true false r k = refl
-reordered true false false r k = refl
-reordered false s e r k = refl
+reordered : (c s e d r k : Bool) → ((c && e) && d) && (r && (s && k)) ≡ (c && (s && e)) && (d && (r && k))
+reordered true true true d r k = refl
+reordered true false true true true k = refl
+reordered true false true true false k = refl
+reordered true false true false r k = refl
+reordered true true false d r k = refl
+reordered true false false d r k = refl
+reordered false s e d r k = refl
 
-pub block-critical : (b : List ℕ) → isCallOf (getD b 0 0) b && (flagAt 1 (getD b 6 0) && (isStage (getD b 3 0) (getD b 4 0) (getD b 5 0) && inSection (stageOf (getD b 3 0) (getD b 4 0) (getD b 5 0)))) ≡ isCriticalIn (masterIn (fieldsOf b))
+-- the block is a call's, with no end known yet
+abbrev isOpenCall : List ℕ → Bool
+isOpenCall b = isCallOf (getD b 0 0) b && isDone (endingAt b)
+
+pub block-critical : (b : List ℕ) → isOpenCall b && (flagAt 1 (getD b 6 0) && (isStage (getD b 3 0) (getD b 4 0) (getD b 5 0) && inSection (stageOf (getD b 3 0) (getD b 4 0) (getD b 5 0)))) ≡ isCriticalIn (masterIn (fieldsOf b))
 unfolding isCallOf masterIn masterOf fieldsOf
 block-critical b =
     rw (itself (getD b 0 0), picked (sameFields (masterFields (masterOf (fieldsOf b))) (fieldsOf b)) (masterOf (fieldsOf b)), image-ranges (fieldsOf b))
-    (reordered (isCall (fieldsOf b)) (isStage (getD b 3 0) (getD b 4 0) (getD b 5 0)) (isEnding (fieldsOf b .error) (fieldsOf b .value) (fieldsOf b .extra)) (flagAt 1 (getD b 6 0)) (inSection (stageOf (getD b 3 0) (getD b 4 0) (getD b 5 0))))
+    (reordered (isCall (fieldsOf b)) (isStage (getD b 3 0) (getD b 4 0) (getD b 5 0)) (isEnding (fieldsOf b .error) (fieldsOf b .value) (fieldsOf b .extra)) (isDone (endingAt b)) (flagAt 1 (getD b 6 0)) (inSection (stageOf (getD b 3 0) (getD b 4 0) (getD b 5 0))))
 
 -- ---- what C gets
 
@@ -105,15 +111,15 @@ no-block b e = rw (ne-eqb (length b) 32 e)
 -- by direction and stage, and then by the other numbers
 module _ (b : List ℕ) (size : length b ≡ blockSize) (reading section : Bool) (er : reading ≡ flagAt 1 (getD b 6 0))
     (es : section ≡ isStage (getD b 3 0) (getD b 4 0) (getD b 5 0) && inSection (stageOf (getD b 3 0) (getD b 4 0) (getD b 5 0))) where
-  shown : (t : Bool) → isCallOf (getD b 0 0) b && (reading && section) ≡ t → isCriticalIn (masterIn (fieldsOf b)) ≡ t
+  shown : (t : Bool) → isOpenCall b && (reading && section) ≡ t → isCriticalIn (masterIn (fieldsOf b)) ≡ t
   shown t e = sym (block-critical b) ∙ rw (sym er, sym es) e
 
-  told : (t : Bool) → isCallOf (getD b 0 0) b && (reading && section) ≡ t → cond t 1 0 ≡ critical b
+  told : (t : Bool) → isOpenCall b && (reading && section) ≡ t → cond t 1 0 ≡ critical b
   unfolding critical
   told t e = rw (eq-eqb (length b) 32 size, shown t e)
 
-  pub told-inside : (t : Bool) → reading && section ≡ true → isCallOf (getD b 0 0) b ≡ t → cond t 1 0 ≡ critical b
+  pub told-inside : (t : Bool) → reading && section ≡ true → isOpenCall b ≡ t → cond t 1 0 ≡ critical b
   told-inside t inside call = told t (rw (inside, call) (with-true t))
 
   pub told-outside : reading && section ≡ false → 0 ≡ critical b
-  told-outside out = told false (sym (none (isCallOf (getD b 0 0) b) (reading && section) out))
+  told-outside out = told false (sym (none (isOpenCall b) (reading && section) out))

@@ -14,13 +14,13 @@ use Rattle.access.specs.declared.ending.Ending.{Ending}
 use Rattle.access.specs.declared.ending.Error.{Error}
 use Rattle.access.specs.declared.ending.Error.the-variants.{InvalidState, InvalidArgument, BufferTooLong}
 use Rattle.access.specs.declared.ending.Ending.the-variants.{Failed}
-use Rattle.access.specs.Endings.{done, returned, failed}
+use Rattle.access.specs.Endings.{done, returned, returnedBoth, failed}
 use Rattle.access.specs.Program.{Program, finish}
 use Rattle.access.specs.Record.{Shown, noMore, shownOf, DifferInPayload, Same, SameStruck, EndsAlike, struck}
 use Rattle.access.specs.Machine.{shownFrom}
 use Rattle.access.proofs.NumberLaws.{number-injective}
 use Rattle.alike.specs.Like.{forgetEnd, forgetting}
-use Rattle.errors.proofs.CheckLaws.{others-stay}
+use Rattle.errors.proofs.CheckLaws.{others-stay, second-forgotten}
 use Rattle.operations.specs.Operations.{operationsOf}
 use Rattle.operations.proofs.SumLaws.{written-runs}
 use Rattle.block.specs.Bytes32.{blockSize}
@@ -59,11 +59,11 @@ use Rattle.ch32_i2c.specs.Manual.{Keeps}
 use Rattle.ch32_i2c.specs.Init as cInit
 use Rattle.ch32_i2c.specs.Transfer.{callOf, masterBegin}
 use Rattle.ch32_i2c.specs.InitSlave as cInitSlave
-use Rattle.ch32_i2c.specs.Demands.{Call, init, transaction, writeRead, write, read, initSlave, listen, respondToWrite, respondToRead, entryOf, Reads, unknown, ownRefusal, refusalOf, Accepted, timedRefusal, rust, ours, endAsTheRust, timedShown, theRusts, NoneAdded, IsMet, takes, nothingToDo, Over, Demand1, Demand2, Demand3, SeenAlike, SameRuns, transactions, writeReads, writes, reads, bytesOfRun, writtenRuns, oursAfter, recordAfter, endAfter, struckAfter, Records, RecordsRust, runsShown, wordsOf, OfDemand2, RepliesEnd, SeenSame}
+use Rattle.ch32_i2c.specs.Demands.{Call, init, transaction, writeRead, write, read, initSlave, listen, respondToWrite, respondToRead, entryOf, Reads, unknown, ownRefusal, refusalOf, Accepted, timedRefusal, rust, ours, endAsTheRust, timedShown, theRusts, NoneAdded, returnsTwo, IsMet, takes, nothingToDo, Over, Demand1, Demand2, Demand3, SeenAlike, SameRuns, transactions, writeReads, writes, reads, bytesOfRun, writtenRuns, oursAfter, recordAfter, endAfter, struckAfter, Records, RecordsRust, runsShown, wordsOf, OfDemand2, RepliesEnd, SeenSame}
 use Rattle.ch32_i2c.proofs.Recorded.{record-is, end-is, struck-same}
 use Rattle.ch32_i2c.proofs.PayloadLaws.{differ-same, Answered, answered, answers-same}
 use Rattle.ch32_i2c.proofs.CallsRun.{parts, Runs, begin-left, response-left, transfer-runs, write-runs, response-runs, unread-runs, init-runs, init-slave-runs, config-unreserved, shownTimed, small}
-use Rattle.ch32_i2c.proofs.SlaveEnds.{reply-ends, reply-end, listen-ends, tells-command, tells-status, tells-count}
+use Rattle.ch32_i2c.proofs.SlaveEnds.{reply-ends, reply-end, listen-ends, tells-command, tells-status, tells-counts}
 use Rattle.ch32_i2c.proofs.Begins.{transaction-starts, write-read-starts, frame-starts, read-starts, transfer-begins, response-begins, init-begins, init-slave-begins}
 use Rattle.ch32_i2c.proofs.Goes.{Is15, init-goes, master-goes, init-slave-goes, slave-goes}
 use Rattle.ch32_i2c.proofs.RustRefuses.{master-refused, master-unadded, timing-added, config-faulty, config-unadded}
@@ -90,7 +90,7 @@ at-nothing : (c : Call) (P : List ℕ → Type 0) (block bytes : List ℕ) → b
 at-nothing c P block bytes e f a = subst (λ (r : List ℕ). Accepted c block r → P r) (sym e) f a
 
 abbrev Run : Call → List ℕ → List ℕ → Type 0
-Run c block bytes = Runs (entryOf c) (takes c) block bytes (shownBy c (length bytes))
+Run c block bytes = Runs (returnsTwo c) (entryOf c) (takes c) block bytes (shownBy c (length bytes))
 
 abbrev Begun : Call → List ℕ → List ℕ → Type 0
 Begun c block bytes = Begins (entryOf c) (takes c) (nothingToDo c) block bytes
@@ -173,6 +173,9 @@ others (initSlave ten address has second general stretching) e = refl
 others (listen chip) e = others-stay .failures (chipOf chip) false e
 others (respondToWrite chip) e = others-stay .failures (chipOf chip) false e
 others (respondToRead chip reply) e = others-stay .failures (chipOf chip) false e
+
+second : (chip : ℕ) (reply : List ℕ) (v x : ℕ) → endAsTheRust (respondToRead chip reply) (returnedBoth v x) ≡ returned v
+second chip reply v x = second-forgotten (chipOf chip) false v x
 
 returns : (c : Call) (v : ℕ) → endAsTheRust c (returned v) ≡ returned v
 returns (init chip input frequency duty) v = refl
@@ -387,7 +390,7 @@ demand-1 =
       tells = number-injective;
       tells-command = tells-command;
       tells-status = tells-status;
-      tells-count = tells-count;
+      tells-counts = tells-counts;
       commanded =
           λ chip block a answers e q.
           listen-ends (chipOf chip) (slaveLent.lentWith [] 0) (suc (length answers)) answers e (sym (seen-ours (listen chip) block [] refl a (suc (length answers)) answers (omega arith) .end-is) ∙ q);
@@ -398,7 +401,7 @@ demand-1 =
       accepts = begins;
       goes = goes;
       stops = stops;
-      ends = λ c block bytes k a answers. subst IsMet (sym (seen-shown c block bytes k a answers .end-is)) (runs c block bytes k a .met answers);
+      ends = λ c block bytes k a answers. subst (IsMet (returnsTwo c)) (sym (seen-shown c block bytes k a answers .end-is)) (runs c block bytes k a .met answers);
       still-open = λ c block bytes k a answers q. runs c block bytes k a .still-open answers (sym (seen-shown c block bytes k a answers .end-is) ∙ q);
       over = over;
     }
@@ -466,6 +469,8 @@ demand-2 =
       enough = λ c block bytes a turns answers h. sym (accepted-ours c block bytes a turns answers h) ∙ accepted-ours c block bytes a (suc (length answers)) answers (omega arith);
       as-the-rust = as-the-rust;
       rusts = rusts;
+      counts = slaveIs.counts-as-the-rust;
+      second = second;
       others = others;
       returns = returns;
       refused = rust-refused;

@@ -13,7 +13,9 @@ use Rattle.registers.specs.Addresses.{addressWord}
 use Rattle.access.specs.Program.{checkTimeout, late}
 use Rattle.access.specs.declared.ending.Error.the-variants.{InvalidAddress, ReservedAddress}
 use Rattle.access.specs.declared.next.Next.{Next}
-use Rattle.access.specs.Endings.{done, returned, failed}
+use Rattle.access.specs.declared.next.Next.the-variants as next
+use Rattle.access.specs.Numbers.{nextNumber}
+use Rattle.access.specs.Endings.{done, returned, returnedBoth, failed}
 use Rattle.access.specs.Record.{Shown, noMore, Same}
 use Rattle.operations.specs.Operations.{operationsOf, shaped}
 use Rattle.operations.specs.Runs.{runsOf, runsFrom}
@@ -24,7 +26,7 @@ use Rattle.master.specs.Calls.{refusal, oursWith}
 use Rattle.master.specs.Rust as rust
 use Rattle.master.specs.Ours as ours
 use Rattle.master.specs.Joined.{joined, joinW}
-use Rattle.slave.specs.Calls.{oursSlave}
+use Rattle.slave.specs.Calls.{rustSlave, oursSlave}
 use Rattle.slave.specs.Rust as slave
 use Rattle.slave.specs.Reserved.{configReserved}
 use Rattle.slave.specs.Init.{configFault}
@@ -37,7 +39,7 @@ use Rattle.calls.specs.InitSlave.{initSlaveHeld}
 use Rattle.timing.specs.Rust.{timing}
 use Rattle.ch32_i2c.specs.InitSlave.{configOf}
 use Rattle.ch32_i2c.specs.Fed.{Seen, endIn, recordIn, DifferAtPayload, payloadIn}
-use Rattle.ch32_i2c.specs.Demands.{Call, transaction, listen, respondToWrite, respondToRead, Accepted, Over, Commanded, SameRuns, transactions, RepliesEnd, SeenAlike, SeenSame}
+use Rattle.ch32_i2c.specs.Demands.{Call, transaction, listen, respondToWrite, respondToRead, Accepted, Over, Commanded, Replied, endAfter, SameRuns, transactions, RepliesEnd, SeenAlike, SeenSame}
 use Rattle.ch32_i2c.specs.Demands as demands
 use Rattle.ch32_i2c.proofs.Demands.{demand-1, demand-2, demand-3}
 
@@ -103,6 +105,33 @@ receives-alike =
 
 replies-alike : (answers : List ℕ) → SeenAlike (RepliesEnd 2 1) (respondToRead 3 (1 ∷ 2 ∷ [])) (respondToRead 3 (7 ∷ [])) zeros [] ones [] answers answers
 replies-alike answers = demand-3 .replies 3 (1 ∷ 2 ∷ []) (7 ∷ []) zeros ones refl refl answers
+
+-- ---- a reply of three bytes whose master refuses the second: TXE three times, then AF with TXE clear. The Rust counts three bytes as
+-- sent, and the third still waits in the data register
+
+abbrev reply : Call
+reply = respondToRead 0 (7 ∷ 8 ∷ 9 ∷ [])
+
+abbrev refusing : List ℕ
+refusing = 0x80 ∷ 0 ∷ 0x80 ∷ 0 ∷ 0x80 ∷ 0 ∷ 0x400 ∷ 0x480 ∷ 0 ∷ []
+
+reply-ours : demands.ours 10 reply 0 refusing .end ≡ some (returnedBoth 0 1)
+unfolding oursSlave slave.blocking-respond-to-read slave.clear-af hasBit putBit putField errorFlags
+reply-ours = refl
+
+reply-ends : endAfter reply zeros [] refusing ≡ some (returnedBoth 0 1)
+reply-ends = demand-2 .records reply zeros [] refl refl 10 refusing (omega arith) .end-is ∙ reply-ours
+
+reply-of-the-rust : demands.rust 10 reply 0 refusing .end ≡ some (returned 0)
+unfolding rustSlave slave.blocking-respond-to-read slave.clear-af hasBit putBit putField errorFlags
+reply-of-the-rust = refl
+
+reply-counted : Replied 3 (returnedBoth 0 1)
+reply-counted = demand-1 .replied 0 (7 ∷ 8 ∷ 9 ∷ []) zeros refl refusing (returnedBoth 0 1) reply-ends
+
+-- in C: bit 32
+reply-number : nextNumber (next.End (returnedBoth 0 1)) ≡ 0x1_0000_0000
+reply-number = refl
 
 -- ---- payloads that agree: a transaction divided otherwise, of the same bytes; a receive that gets the same bytes
 

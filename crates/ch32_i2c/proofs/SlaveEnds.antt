@@ -1,13 +1,13 @@
--- How slave calls end, by layer 1's programs. Two replies at one chip with the same answers send equally many bytes, and fail alike; a listen
--- is done with a command whose address is in its bits.
+-- How slave calls end, by layer 1's programs. Two replies at one chip with the same answers send equally many bytes, by both counts, and fail
+-- alike; a listen is done with a command whose address is in its bits.
 -- Assumes nothing.
 use mathlib.Core.Path.{_≡_, refl, ap, sym, subst, _∙_}
 use mathlib.Core.Bool.{Bool, true, false, cond, not, _&&_}
 use mathlib.Core.List.{List}
 use mathlib.Core.Option.{Option, some}
-use Prim.Native.Nat.{ℕ, suc, _<_, _≤_, _+_, _-_, _*_, min}
+use Prim.Native.Nat.{ℕ, suc, pred, _<_, _≤_, _+_, _-_, _*_, _/_, _%_, min}
 use native.Mathlib.Omega.{arith}
-use lib.Dec.{eqb, leb}
+use lib.Dec.{eqb, leb, ltb}
 use lib.ListN.{length}
 use borrow.Author.Tests.{ne-eqb, leb-false}
 use Rattle.registers.specs.declared.chip.Chip.{Chip}
@@ -21,7 +21,7 @@ use Rattle.access.specs.declared.ending.Ending.{Ending}
 use Rattle.access.specs.declared.ending.Ending.the-variants.{Failed}
 use Rattle.access.specs.declared.ending.Error.the-variants.{Timeout}
 use Rattle.access.specs.declared.next.Next.the-variants as next
-use Rattle.access.specs.Endings.{failureOf, returned}
+use Rattle.access.specs.Endings.{failureOf, returned, returnedBoth}
 use Rattle.access.specs.Numbers.{nextNumber}
 use Rattle.access.specs.Program.{Program, finish, checkTimeout, late}
 use Rattle.access.specs.Record.{EndsAlike, neither, both}
@@ -38,8 +38,8 @@ use Rattle.slave.specs.declared.state.Kind.the-variants.{Listen, RespondToRead}
 use Rattle.slave.specs.Rust as rust
 use Rattle.slave.specs.Ours as ours
 use Rattle.slave.specs.Numbers.{kindNumber, addressNumber, commandNumber, statusNumber}
-use Rattle.slave.specs.Calls.{SlaveLent, oursProgram, oursSlave}
-use Rattle.ch32_i2c.specs.Demands.{RepliesEnd, both-failed, both-done, InBits, Commanded, with-command, without-command, Replied, with-status, without-status}
+use Rattle.slave.specs.Calls.{SlaveLent, bothLeft, oursProgram, oursSlave}
+use Rattle.ch32_i2c.specs.Demands.{IsSecond, same, one-less, RepliesEnd, both-failed, both-done, InBits, Commanded, with-command, without-command, Replied, with-status, without-status}
 use Rattle.ch32_i2c.proofs.Paired.{Paired, finishes, accesses, paired-ends, either, spins, alone}
 
 -- ---- errors and the abort
@@ -74,13 +74,24 @@ module _ (chip : Chip) (x y : List ℕ) (turns : ℕ) where
   abbrev Reply : Ending → Ending → Type 0
   Reply = RepliesEnd (length x) (length y)
 
+  second : (star1 sent : ℕ) → IsSecond sent (ours.sent-for-second chip star1 sent)
+  second star1 sent = go (hasBit AF star1) (not (hasBit TXE star1) && ltb 0 sent)
+    where
+      go : (a b : Bool) → IsSecond sent (cond a (cond b (pred sent) sent) sent)
+      go true true = one-less
+      go true false = same
+      go false b = same
+
+  left-over : (star1 sent : ℕ) → Reply (bothLeft (ours.counts chip star1 (length x) sent)) (bothLeft (ours.counts chip star1 (length y) sent))
+  left-over star1 sent = both-done sent (ours.sent-for-second chip star1 sent) (second star1 sent)
+
   replies : Paired Reply (oursProgram turns chip RespondToRead (record { reply = x; room = 0 })) (oursProgram turns chip RespondToRead (record { reply = y; room = 0 }))
   unfolding rust.blocking-respond-to-read rust.clear-af rust.clear-stopf
   replies =
       spins Reply _ _
-      (λ sent f g rest. accesses (λ star1. either Reply (hasBit AF star1) (accesses (λ a. accesses (λ b. finishes (both-done sent))))
-      (either Reply (hasBit STOPF star1) (accesses (λ a. accesses (λ b. accesses (λ c. finishes (both-done (rust.taken-off chip star1 sent))))))
-      (either Reply (hasBit ADDR star1) (finishes (both-done (rust.taken-off chip star1 sent)))
+      (λ sent f g rest. accesses (λ star1. either Reply (hasBit AF star1) (accesses (λ a. accesses (λ b. finishes (left-over star1 sent))))
+      (either Reply (hasBit STOPF star1) (accesses (λ a. accesses (λ b. accesses (λ c. finishes (left-over star1 (rust.taken-off chip star1 sent))))))
+      (either Reply (hasBit ADDR star1) (finishes (left-over star1 (rust.taken-off chip star1 sent)))
       (either Reply (hasBit TXE star1) (accesses (λ a. rest (suc sent)))
       (checks Reply both-failed chip turns star1 (rest sent))))))) turns 0
 
@@ -92,7 +103,7 @@ reply-ends chip x y turns answers = paired-ends (RepliesEnd (length x) (length y
 -- one reply
 replied-with : (n m : ℕ) {e f : Ending} → RepliesEnd n m e f → Replied n e
 replied-with n m (both-failed f) = without-status f
-replied-with n m (both-done sent) = with-status sent
+replied-with n m (both-done sent second i) = with-status sent second i
 
 -- ---- a listen
 
@@ -191,5 +202,13 @@ status-back size sent = go (leb size (min sent size)) refl
 pub tells-status : (size₁ sent₁ size₂ sent₂ : ℕ) → statusNumber (rust.send-status size₁ sent₁) ≡ statusNumber (rust.send-status size₂ sent₂) → rust.send-status size₁ sent₁ ≡ rust.send-status size₂ sent₂
 tells-status size₁ sent₁ size₂ sent₂ e = sym (status-back size₁ sent₁) ∙ ap statusOf e ∙ status-back size₂ sent₂
 
-pub tells-count : (m n : ℕ) → nextNumber (next.End (returned m)) ≡ nextNumber (next.End (returned n)) → m ≡ n
-tells-count m n e = omega (arith, e)
+pub tells-counts : (m x n y : ℕ) → m < 65536 → n < 65536 → nextNumber (next.End (returnedBoth m x)) ≡ nextNumber (next.End (returnedBoth n y)) → (m ≡ n) × (x ≡ y)
+tells-counts m x n y h k e =
+    let joined : m + x * 65536 ≡ n + y * 65536 = omega (arith, e) in
+    (sym (first-of m x h) ∙ ap (λ (z : ℕ). z % 65536) joined ∙ first-of n y k, sym (second-of m x h) ∙ ap (λ (z : ℕ). z / 65536) joined ∙ second-of n y k)
+  where
+    first-of : (m x : ℕ) → m < 65536 → (m + x * 65536) % 65536 ≡ m
+    first-of m x h = omega arith
+
+    second-of : (m x : ℕ) → m < 65536 → (m + x * 65536) / 65536 ≡ x
+    second-of m x h = omega arith

@@ -1,7 +1,7 @@
--- A master call that is accepted ends with 0 or with an error that was met, 1 to 6.
+-- A master call that is accepted ends with 0 and no second number, or with an error that was met, 1 to 6.
 -- Assumes nothing.
 use mathlib.Core.Path.{_≡_, refl, sym, subst}
-use mathlib.Core.Bool.{Bool, true, not, _&&_, true≢false}
+use mathlib.Core.Bool.{Bool, true, false, not, _&&_, true≢false}
 use lib.Dec.{eqb}
 use Rattle.access.specs.declared.need.Need.{Need}
 use Rattle.access.specs.declared.need.Need.the-variants as need
@@ -20,7 +20,7 @@ use Rattle.master.specs.Fits.{fits, fitsFound, counts, isOver}
 use Rattle.ch32_i2c.proofs.MetEnds.{MetNeed, met-or-done}
 use Rattle.ch32_i2c.proofs.TransferStages.{isPlain, by-stage}
 
-met-plain : (n : Need) → isPlain n ≡ true → MetNeed n
+met-plain : (n : Need) → isPlain n ≡ true → MetNeed false n
 met-plain (need.Read r) q = tt
 met-plain (need.Write r v) q = tt
 met-plain need.Clock q = tt
@@ -36,7 +36,7 @@ last-true a b c d e f g h q =
 
 module _ (g : Setting) where
   -- an ended state that fits
-  met-ended : (f : FoundRun) (d : Progress) → fitsFound g f Ended d ≡ true → MetNeed (owedAt g Ended d)
+  met-ended : (f : FoundRun) (d : Progress) → fitsFound g f Ended d ≡ true → MetNeed false (owedAt g Ended d)
   met-ended (At r) d e =
       met-or-done (d .ending) (eqb (d .left) 0 && not (r .more)) (second-true (counts r d) (isOver r d) e)
   met-ended Nothing d e =
@@ -44,9 +44,9 @@ module _ (g : Setting) where
       (other-true (hasFailed (d .ending))
       (both-true (last-true (not (d .reading)) (eqb (d .run) 0) (eqb (d .left) 0) (eqb (d .place) 0) (eqb (d .word) 0) (eqb (d .divider) 0) (eqb (d .rise) 0) (isDone (d .ending)) e) refl))
 
-  met-at : (f : FoundRun) (st : Stage) (d : Progress) → fitsFound g f st d ≡ true → MetNeed (owedAt g st d)
-  met-at f st d e = by-stage MetNeed met-plain g st d (λ q. met-ended f d (subst (λ (x : Stage). fitsFound g f x d ≡ true) q e)) tt
+  met-at : (f : FoundRun) (st : Stage) (d : Progress) → fitsFound g f st d ≡ true → MetNeed false (owedAt g st d)
+  met-at f st d e = by-stage (MetNeed false) met-plain g st d (λ q. met-ended f d (subst (λ (x : Stage). fitsFound g f x d ≡ true) q e)) tt
 
-pub transfer-met : (sh : Shape) (m : Move) → fits sh m ≡ true → MetNeed (owed sh m)
+pub transfer-met : (sh : Shape) (m : Move) → fits sh m ≡ true → MetNeed false (owed sh m)
 unfolding fits owed
 transfer-met sh m e = met-at (sh .setting) (runAt (sh .runs) (m .progress .run)) (m .stage) (m .progress) e

@@ -4,6 +4,7 @@ use mathlib.Core.Bool.{Bool, true, false, cond, _&&_}
 use mathlib.Core.List.{List}
 use lib.Dec.{eqb}
 use lib.ListN.{length}
+use Rattle.access.specs.Endings.{isDone}
 use Rattle.block.specs.Bytes32.{blockSize, fieldsOf}
 use Rattle.master.specs.declared.stage.AddressStage.{AddressStage}
 use Rattle.master.specs.declared.stage.AddressStage.the-variants as address
@@ -59,9 +60,9 @@ inSection (GenerateStop k x) = inStopSection k
 inSection (Abort x) = false
 inSection Ended = false
 
--- the access that a state owes lies in a section; a write has none, though it reads STAR2 behind ADDR too
+-- the access that an open state owes lies in a section: no end is known there yet. A write has none, though it reads STAR2 behind ADDR too
 abbrev pub isCritical : State → Bool
-isCritical s = s .progress .reading && inSection (s .stage)
+isCritical s = isDone (s .progress .ending) && (s .progress .reading && inSection (s .stage))
 
 -- no block that holds no transfer's state is
 abbrev pub isCriticalIn : MasterFound → Bool

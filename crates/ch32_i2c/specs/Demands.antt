@@ -25,7 +25,7 @@ use mathlib.Core.Path.{_≡_}
 use mathlib.Core.Bool.{Bool, true, false, not, _&&_, _||_}
 use mathlib.Core.List.{List, [], _∷_, _++_, map}
 use mathlib.Core.Option.{Option, none, some}
-use Prim.Native.Nat.{ℕ, suc, _<_, _≤_}
+use Prim.Native.Nat.{ℕ, suc, pred, _<_, _≤_}
 use lib.Dec.{eqb, ltb}
 use lib.ListN.{length, take}
 use Rattle.registers.specs.declared.chip.Chip.{Chip}
@@ -36,7 +36,7 @@ use Rattle.access.specs.declared.ending.Error.{Error}
 use Rattle.access.specs.declared.ending.Error.the-variants.{InvalidState, InvalidArgument}
 use Rattle.access.specs.declared.next.Next.{Next}
 use Rattle.access.specs.declared.next.Next.the-variants as next
-use Rattle.access.specs.Endings.{errorNumber, done, returned, failed, isMet}
+use Rattle.access.specs.Endings.{errorNumber, done, returned, returnedBoth, failed, isMet}
 use Rattle.access.specs.Machine.{isEnd}
 use Rattle.access.specs.Numbers.{nextNumber, HoldsWords}
 use Rattle.access.specs.Program as program
@@ -70,6 +70,7 @@ use Rattle.slave.specs.Init as initSlaveMachine
 use Rattle.slave.specs.Calls.{SlaveLent, sizeOf, sizeRefusal, rustInit, rustSlave, oursSlave}
 use Rattle.slave.specs.Steps as slave
 use Rattle.slave.specs.Rust.{send-status}
+use Rattle.slave.specs.Claims.{CountsAsTheRust}
 use Rattle.slave.specs.Numbers.{commandNumber, statusNumber}
 use Rattle.slave_driver.specs.Lent as slaveLent
 use Rattle.images.specs.declared.init_image.InitFound.{InitFound}
@@ -303,24 +304,45 @@ pub record Over (c : Call) (block bytes answers more : List ℕ) : Type 0 where
   pub end-stays : endAfter c block bytes (answers ++ more) ≡ endAfter c block bytes answers
   pub left-stays : (a : ℕ) → leftAfter c block bytes (answers ++ (a ∷ [])) ≡ refusedWith InvalidState (leftAfter c block bytes answers .block) (leftAfter c block bytes answers .read)
 
--- an end that is none of the refusals: 0, or an error that the hardware gave, 1 to 6
-abbrev pub IsMet : Option Ending → Type 0
-IsMet none = Unit {0}
-IsMet (some (Done o)) = Unit {0}
-IsMet (some (Failed f)) = isMet (f .error) ≡ true
+-- a reply alone returns two numbers
+abbrev pub returnsTwo : Call → Bool
+returnsTwo (init chip input frequency duty) = false
+returnsTwo (transaction chip address list written) = false
+returnsTwo (writeRead chip address written) = false
+returnsTwo (write chip address option written) = false
+returnsTwo (read chip address option) = false
+returnsTwo (initSlave ten address has second general stretching) = false
+returnsTwo (listen chip) = false
+returnsTwo (respondToWrite chip) = false
+returnsTwo (respondToRead chip reply) = true
+
+-- an end that is none of the refusals: 0, where the second number is 0 unless there may be two; or an error that the hardware gave, 1 to 6
+abbrev pub IsMet : Bool → Option Ending → Type 0
+IsMet two none = Unit {0}
+IsMet two (some (Done o)) = two || eqb (o .second) 0 ≡ true
+IsMet two (some (Failed f)) = isMet (f .error) ≡ true
 
 -- a slave's address in its seven or ten bits
 abbrev pub InBits : SlaveAddress → Type 0
 InBits (SevenBit a) = a < 128
 InBits (TenBit a) = a < 1024
 
--- what a listen and a reply can be done with: a command whose address is in its bits; the status of a number of bytes sent
+-- what a listen and a reply can be done with: a command whose address is in its bits; the statuses of two numbers of bytes sent
 pub data Commanded : Ending → Type 0 where
   with-command : (c : SlaveCommand) → InBits (c .address) → Commanded (returned (commandNumber c))
   without-command : (f : Failure) → Commanded (Failed f)
 
+-- the second of them, by the first: the same, or one less, where AF found a byte that the master had not taken
+pub data IsSecond (sent : ℕ) : ℕ → Type 0 where
+  same : IsSecond sent sent
+  one-less : IsSecond sent (pred sent)
+
+-- what is left over of so many bytes, by both
+abbrev pub leftBoth : ℕ → ℕ → ℕ → Ending
+leftBoth size sent second = returnedBoth (statusNumber (send-status size sent)) (statusNumber (send-status size second))
+
 pub data Replied (size : ℕ) : Ending → Type 0 where
-  with-status : (sent : ℕ) → Replied size (returned (statusNumber (send-status size sent)))
+  with-status : (sent second : ℕ) → IsSecond sent second → Replied size (leftBoth size sent second)
   without-status : (f : Failure) → Replied size (Failed f)
 
 -- "A call handed in, with any address, list, buffers and register answers, has after each answer exactly one next access or one end."
@@ -329,8 +351,9 @@ pub record Demand1 : Type 0 where
   -- begin of a call without a cause hands out an access and leaves a block that a step takes; where there is nothing to do it is done, and leaves
   -- an ended one
   pub accepts : (c : Call) (block bytes : List ℕ) → Reads c bytes → Accepted c block bytes → Begins (entryOf c) (takes c) (nothingToDo c) block bytes
-  -- after each answer there is an access, or the end with 0 or 1 to 6: a call that was accepted is refused at no step before its end
-  pub ends : (c : Call) (block bytes : List ℕ) → Reads c bytes → Accepted c block bytes → (answers : List ℕ) → IsMet (endAfter c block bytes answers)
+  -- after each answer there is an access, or the end with 0 or 1 to 6: a call that was accepted is refused at no step before its end. Only a
+  -- reply's end has a second number
+  pub ends : (c : Call) (block bytes : List ℕ) → Reads c bytes → Accepted c block bytes → (answers : List ℕ) → IsMet (returnsTwo c) (endAfter c block bytes answers)
   -- while there is no end, a step takes the block and the bytes that were left
   pub still-open : (c : Call) (block bytes : List ℕ) → Reads c bytes → Accepted c block bytes → (answers : List ℕ) → endAfter c block bytes answers ≡ none
       → takes c (leftAfter c block bytes answers .block) (leftAfter c block bytes answers .read) ≡ true
@@ -338,11 +361,11 @@ pub record Demand1 : Type 0 where
   pub over : (c : Call) (block bytes : List ℕ) → Reads c bytes → Accepted c block bytes → (answers more : List ℕ) (e : Ending) → endAfter c block bytes answers ≡ some e → Over c block bytes answers more
   -- a returned number is that of exactly one access or end (every exported contract says that what is handed out holds 16-bit words)
   pub tells : (m n : Next) → HoldsWords m → HoldsWords n → nextNumber m ≡ nextNumber n → m ≡ n
-  -- and so is the value of a slave call that is done: commands are told apart by kind, by seven or ten bits and by address, statuses of a reply
-  -- and counts by their numbers; and a listen and a reply end with no others
+  -- and so is what a slave call that is done returns: commands are told apart by kind, by seven or ten bits and by address, statuses of a reply
+  -- and counts by their numbers, the two of a reply each by its own; and a listen and a reply end with no others
   pub tells-command : (c d : SlaveCommand) → InBits (c .address) → InBits (d .address) → commandNumber c ≡ commandNumber d → c ≡ d
   pub tells-status : (size₁ sent₁ size₂ sent₂ : ℕ) → statusNumber (send-status size₁ sent₁) ≡ statusNumber (send-status size₂ sent₂) → send-status size₁ sent₁ ≡ send-status size₂ sent₂
-  pub tells-count : (m n : ℕ) → nextNumber (next.End (returned m)) ≡ nextNumber (next.End (returned n)) → m ≡ n
+  pub tells-counts : (m x n y : ℕ) → m < 65536 → n < 65536 → nextNumber (next.End (returnedBoth m x)) ≡ nextNumber (next.End (returnedBoth n y)) → (m ≡ n) × (x ≡ y)
   pub commanded : (chip : ℕ) (block : List ℕ) → Accepted (listen chip) block [] → (answers : List ℕ) (e : Ending) → endAfter (listen chip) block [] answers ≡ some e → Commanded e
   pub replied : (chip : ℕ) (reply block : List ℕ) → Accepted (respondToRead chip reply) block [] → (answers : List ℕ) (e : Ending) → endAfter (respondToRead chip reply) block [] answers ≡ some e → Replied (length reply) e
   -- a bad call: begin refuses with the first cause, and then every lent byte is as before
@@ -392,7 +415,10 @@ pub record Demand2 : Type 0 where
   pub as-the-rust : (c : Call) (room turns : ℕ) (answers : List ℕ) → rust turns c room answers ≡ forgetting (endAsTheRust c) (ours turns c room answers)
   pub rusts : (c : Call) (block bytes : List ℕ) → Reads c bytes → Accepted c block bytes → (turns : ℕ) (answers : List ℕ) → length answers < turns
       → RecordsRust c block bytes answers (rust turns c (length bytes) answers)
-  -- nothing is forgotten of an end that no error check decided
+  -- it lacks a reply's second count, and of the first nothing is forgotten: without the second a reply IS the Rust's program
+  pub counts : CountsAsTheRust
+  pub second : (chip : ℕ) (reply : List ℕ) (v x : ℕ) → endAsTheRust (respondToRead chip reply) (returnedBoth v x) ≡ returned v
+  -- nothing is forgotten of any other end that no error check decided
   pub others : (c : Call) (e : Error) → endAsTheRust c (failed e) ≡ failed e
   pub returns : (c : Call) (v : ℕ) → endAsTheRust c (returned v) ≡ returned v
   -- a call whose first cause is 6 or 9 is refused by the Rust with the same error, before any access; without an added cause there is no other
@@ -419,11 +445,11 @@ pub record SeenAlike (Alike : Ending → Ending → Type 0) (c₁ c₂ : Call) (
   pub first : (i : ℕ) → OfDemand2 c₁ b₁ r₁ (take i xs)
   pub second : (i : ℕ) → OfDemand2 c₂ b₂ r₂ (take i ys)
 
--- the ends of two replies of these lengths: both fail alike, or both are done, where one number of bytes sent and its length give each the
--- bytes left over
+-- the ends of two replies of these lengths: both fail alike, or both are done, where one number of bytes sent, and one for the second count,
+-- give each by its length the bytes left over
 pub data RepliesEnd (n m : ℕ) : Ending → Ending → Type 0 where
   both-failed : (f : Failure) → RepliesEnd n m (Failed f) (Failed f)
-  both-done : (sent : ℕ) → RepliesEnd n m (returned (statusNumber (send-status n sent))) (returned (statusNumber (send-status m sent)))
+  both-done : (sent second : ℕ) → IsSecond sent second → RepliesEnd n m (leftBoth n sent second) (leftBoth m sent second)
 
 -- two transfers of one kind, chip and address (a transaction, a write-read, or a frame with its option) whose runs agree in direction and
 -- total length
@@ -479,7 +505,7 @@ pub record Demand3 : Type 0 where
       → SeenSame (respondToWrite chip) (respondToWrite chip) b₁ r₁ b₂ r₂ xs ys
   -- "For any two accepted slave replies at one chip, whatever their bytes and lengths, and every list of answers, the same fed to both, struck
   -- records are equal after begin and after each step, so that beside payload values only the end may depend on the length; at equal lengths
-  -- ends are equal too. Records, unstruck as well, and ends are those of demand 2."
+  -- ends are equal too. Records, unstruck as well, and ends are those of demand 2." An end has both counts.
   pub replies : (chip : ℕ) (reply₁ reply₂ b₁ b₂ : List ℕ) → Accepted (respondToRead chip reply₁) b₁ [] → Accepted (respondToRead chip reply₂) b₂ [] → (answers : List ℕ)
       → SeenAlike (RepliesEnd (length reply₁) (length reply₂)) (respondToRead chip reply₁) (respondToRead chip reply₂) b₁ [] b₂ [] answers answers
   pub replies-of-one-length : (chip : ℕ) (reply₁ reply₂ b₁ b₂ : List ℕ) → length reply₁ ≡ length reply₂ → Accepted (respondToRead chip reply₁) b₁ [] → Accepted (respondToRead chip reply₂) b₂ []

@@ -6,6 +6,7 @@ ghost use Rattle.stage_numbers.specs.MasterStage.{readStageNumber, readStageOf,
 ghost use Rattle.ch32_i2c.specs.Critical.{inReadSection, inSection, critical};
 use block::at;
 use block::bytes32;
+use images::end_image;
 use images::numbers;
 use master_call::held;
 use master_step::stage;
@@ -41,7 +42,7 @@ pub extern "C" fn ch32_i2c_is_critical(block: &[u8]) -> u64
     let reading = numbers::flag_at(1, block[at::MARKS]);
     let section = in_section(block[at::GROUP], block[at::WHAT], block[at::PHASE]);
     if reading & section {
-        if held::is_call_of(block, block[at::ENTRY]) {
+        if held::is_call_of(block, block[at::ENTRY]) & end_image::is_done(block) {
             1
         } else {
             0

@@ -14,8 +14,12 @@ use Rattle.access.specs.Program.{Program}
 use Rattle.alike.specs.Like.{Like, Handles}
 use Rattle.alike.proofs.LikeLaws.{cases}
 use Rattle.errors.specs.Classes.{errorOf, decided}
-use Rattle.errors.specs.AsTheRust.{asTheRust, OthersStay, rustChain}
+use Rattle.errors.specs.AsTheRust.{asTheRust, SecondForgotten, OthersStay, rustChain}
 use Rattle.errors.proofs.ClassLaws.{by-class}
+
+pub second-forgotten : SecondForgotten
+unfolding asTheRust
+second-forgotten chip nack v x = refl
 
 pub others-stay : OthersStay
 unfolding asTheRust

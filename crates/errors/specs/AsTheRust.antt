@@ -1,4 +1,4 @@
--- Our end as the Rust's: what the Rust lacks is forgotten. Ours has no more than the Rust today, so nothing is.
+-- Our end as the Rust's: what the Rust lacks is forgotten. That is the second number of an end with 0, a reply's second count.
 use mathlib.Core.Path.{_≡_}
 use mathlib.Core.Bool.{Bool, cond, _&&_}
 use Prim.Native.Nat.{ℕ}
@@ -6,16 +6,22 @@ use Rattle.registers.specs.declared.chip.Chip.{Chip}
 use Rattle.registers.specs.Bits.{BERR, ARLO, AF, OVR, PECERR, TIMEOUT}
 use Rattle.registers.specs.Word.{hasBit}
 use Rattle.access.specs.declared.ending.Ending.{Ending}
+use Rattle.access.specs.declared.ending.Ending.the-variants.{Done, Failed}
 use Rattle.access.specs.declared.ending.Error.{Error}
 use Rattle.access.specs.declared.ending.Error.the-variants.{Bus, Arbitration, Nack, Timeout, Crc, Overrun}
 use Rattle.access.specs.declared.ending.Failure.{Failure}
-use Rattle.access.specs.Endings.{failureOf, returned, failed}
+use Rattle.access.specs.Endings.{failureOf, returned, returnedBoth, failed}
 
 -- for a chip, and a master (`nack`) or a slave
 unfoldable pub asTheRust : Chip → Bool → Ending → Ending
-asTheRust chip nack e = e
+asTheRust chip nack (Done o) = returned (o .value)
+asTheRust chip nack (Failed f) = Failed f
 
--- an end that no error check decided stays as it is: what is returned, a late clock, a lost START, a refusal
+-- what is forgotten
+abbrev pub SecondForgotten : Type 0
+SecondForgotten = (chip : Chip) (nack : Bool) (v x : ℕ) → asTheRust chip nack (returnedBoth v x) ≡ returned v
+
+-- all else that no error check decided stays as it is: what else is returned, a late clock, a lost START, a refusal
 pub record OthersStay : Type 0 where
   pub done : (chip : Chip) (nack : Bool) (v : ℕ) → asTheRust chip nack (returned v) ≡ returned v
   pub failures : (chip : Chip) (nack : Bool) (e : Error) → asTheRust chip nack (failed e) ≡ failed e

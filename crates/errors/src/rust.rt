@@ -2,11 +2,15 @@
 ghost use mathlib.Core.Path.{_≡_};
 ghost use Rattle.errors.specs.AsTheRust.{asTheRust};
 use access::Ending;
+use access::ending;
 use registers::Chip;
 
-// For a master (`nack`) or a slave. Ours has no more than the Rust today.
+// For a master (`nack`) or a slave. The Rust has no second number.
 pub fn as_the_rust(ending: Ending, chip: Chip, nack: bool) -> Ending
     ensures { λ r. ⌜ r ≡ asTheRust chip nack ending ⌝ }
 {
-    ending
+    match ending {
+        Ending::Done(outcome) => ending::returned(outcome.value),
+        Ending::Failed(failure) => Ending::Failed(failure),
+    }
 }

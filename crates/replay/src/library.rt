@@ -54,6 +54,11 @@ pub fn step(
     }
 }
 
+// The second number of an end.
+pub fn second(end: u64) -> u16 {
+    ending::ending_extra(ending::ending_in(end))
+}
+
 // An end of the library as the Rust's. `init` (0) and `init_slave` (5) have no error check; the calls between them are a
 // master's. What is no end's number stays, and differs from every stored end.
 pub fn as_the_rust(entry: u8, chip: u8, end: u64) -> u64 {

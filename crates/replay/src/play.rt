@@ -116,6 +116,9 @@ fn steps(
     }
 }
 
+// A stored end: its code, its number, its value and its second count.
+const END_LENGTH: usize = 6;
+
 // A step after the end.
 const ENDED: u64 = 0xf00;
 
@@ -145,20 +148,20 @@ fn finish(
     if stored::owed(code) {
         return length_if(next == stored::access(code, 0), 1);
     }
-    if left.len() < 4 {
+    if left.len() < END_LENGTH {
         return 0;
     }
     let number = left[1];
-    if library::as_the_rust(entry, chip, next)
-        != stored::end(number, stored::word(left[2], left[3]))
-    {
+    let end = stored::end(number, stored::word(left[2], left[3]));
+    let second = stored::word(left[4], left[5]);
+    if (library::as_the_rust(entry, chip, next) != end) | (library::second(next) != second) {
         return 0;
     }
     if is_first & (number != 0) {
-        return length_if(is_stale(block), 4);
+        return length_if(is_stale(block), END_LENGTH);
     }
     let after = library::step(entry, block, list, written, read, 0x1234);
-    length_if(after == ENDED, 4)
+    length_if(after == ENDED, END_LENGTH)
 }
 
 // The bytes that arrived, behind their number, and the read bytes: as stored, with `accesses` compared before.

@@ -11,10 +11,12 @@ use Rattle.registers.specs.declared.chip.Chip.{Chip}
 use Rattle.registers.specs.Word.{hasBit, fieldOf}
 use Rattle.registers.specs.Flags.{errorFlags}
 use Rattle.registers.specs.Addresses.{ownTen}
-use Rattle.access.specs.Endings.{returned}
+use Rattle.access.specs.Endings.{returned, returnedBoth}
 use Rattle.access.specs.Program.{late}
 use Rattle.access.specs.Record.{DifferInPayload, Same, SameStruck}
 use Rattle.access.specs.Edges.{EdgesHold}
+use Rattle.alike.specs.Like.{forgetting}
+use Rattle.errors.specs.AsTheRust.{asTheRust}
 use Rattle.slave.specs.declared.state.Kind.the-variants.{Listen, RespondToWrite, RespondToRead}
 use Rattle.slave.specs.Rust as rust
 use Rattle.slave.specs.Reserved.{configReserved}
@@ -63,18 +65,50 @@ two-ends : slaveShown plain RespondToRead two answers .end ≡ some (returned 0)
 unfolding slaveShown owed advance hasBit errorFlags
 two-ends = refl
 
-three-ends : slaveShown plain RespondToRead three answers .end ≡ some (returned 1)
+three-ends : slaveShown plain RespondToRead three answers .end ≡ some (returnedBoth 1 1)
 unfolding slaveShown owed advance hasBit errorFlags
 three-ends = refl
 
 -- the Rust's, by layer 1
-three-of-the-rust : rustSlave 10 plain RespondToRead three answers ≡ slaveShown plain RespondToRead three answers
-unfolding rustSlave slaveShown rust.blocking-respond-to-read rust.clear-stopf owed advance hasBit errorFlags
+three-of-the-rust : rustSlave 10 plain RespondToRead three answers ≡ forgetting (asTheRust plain false) (slaveShown plain RespondToRead three answers)
+unfolding rustSlave slaveShown asTheRust rust.blocking-respond-to-read rust.clear-stopf owed advance hasBit errorFlags
 three-of-the-rust = refl
 
 three-of-ours : oursSlave 10 plain RespondToRead three answers ≡ slaveShown plain RespondToRead three answers
 unfolding oursSlave slaveShown rust.blocking-respond-to-read rust.clear-stopf owed advance hasBit errorFlags
 three-of-ours = refl
+
+-- ---- the master refuses a byte: TXE three times, then AF, with TXE clear or set; clear_af's own read of STAR1 shows the other
+
+abbrev waiting : List ℕ
+waiting = 0x80 ∷ 0 ∷ 0x80 ∷ 0 ∷ 0x80 ∷ 0 ∷ 0x400 ∷ 0x480 ∷ 0 ∷ []
+
+abbrev none-waits : List ℕ
+none-waits = 0x80 ∷ 0 ∷ 0x80 ∷ 0 ∷ 0x80 ∷ 0 ∷ 0x480 ∷ 0x400 ∷ 0 ∷ []
+
+-- the third byte still waits in the data register: the Rust calls it sent, and the second count does not
+third-waits : slaveShown plain RespondToRead three waiting .end ≡ some (returnedBoth 0 1)
+unfolding slaveShown owed advance hasBit errorFlags
+third-waits = refl
+
+third-of-the-rust : rustSlave 10 plain RespondToRead three waiting .end ≡ some (returned 0)
+unfolding rustSlave rust.blocking-respond-to-read rust.clear-af hasBit errorFlags
+third-of-the-rust = refl
+
+third-taken : slaveShown plain RespondToRead three none-waits .end ≡ some (returnedBoth 0 0)
+unfolding slaveShown owed advance hasBit errorFlags
+third-taken = refl
+
+-- of two bytes it is the padding that waits, and both were taken
+padding-waits : slaveShown plain RespondToRead two waiting .end ≡ some (returnedBoth 0 0)
+unfolding slaveShown owed advance hasBit errorFlags
+padding-waits = refl
+
+-- ---- STOP finds the second byte of three waiting: it is off both counts
+
+stop-finds-it : slaveShown plain RespondToRead three (0x80 ∷ 0 ∷ 0x80 ∷ 0 ∷ 0x10 ∷ 0x90 ∷ 1 ∷ 0 ∷ []) .end ≡ some (returnedBoth 2 2)
+unfolding slaveShown owed advance hasBit errorFlags
+stop-finds-it = refl
 
 -- ---- two receives of one length that get other bytes
 

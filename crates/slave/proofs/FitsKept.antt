@@ -1,10 +1,10 @@
 -- Steps keep a state that fits, and a call begins with one.
 -- Assumes nothing.
 use mathlib.Core.Path.{_≡_, refl, sym}
-use mathlib.Core.Bool.{Bool, true, false, cond, not, _&&_, _||_, true≢false}
+use mathlib.Core.Bool.{Bool, true, false, cond, not, _&&_, true≢false}
 use Prim.Native.Nat.{ℕ, suc, pred, _+_, _*_, _≤_, _<_}
 use native.Mathlib.Omega.{arith}
-use borrow.Author.Tests.{lt-ltb, le-leb, leb-true, ltb-true, eq-eqb}
+use borrow.Author.Tests.{lt-ltb, le-leb, leb-true, ltb-true}
 use lib.Dec.{eqb, leb, ltb}
 use Rattle.registers.specs.declared.chip.Chip.{Chip}
 use Rattle.registers.specs.Bits.{ADDMODE, ADDR, STOPF, RXNE, TXE, AF, MSL, BUSY, GENCALL, DUALF}
@@ -17,6 +17,7 @@ use Rattle.access.specs.declared.ending.Error.the-variants.{Timeout}
 use Rattle.access.specs.Endings.{failureOf, isMet, isDone, hasFailed}
 use Rattle.access.specs.Program.{late}
 use Rattle.access.proofs.Choice.{chosen, both-true, first-true, second-true, either-true, other-true}
+use Rattle.access.proofs.Compared.{itself}
 use Rattle.errors.specs.declared.Checked.{Checked}
 use Rattle.errors.specs.declared.Checked.the-variants as checked
 use Rattle.errors.specs.Classes.{errorOf, decided}
@@ -42,7 +43,7 @@ use Rattle.slave.specs.declared.state.Progress.{Progress}
 use Rattle.slave.specs.declared.state.Move.{Move}
 use Rattle.slave.specs.Numbers.{kindNumber, addressNumber}
 use Rattle.slave.specs.Machine.{to, saves, fails, kindOf, ownAddress, slaveHandleErrors, takenOff, leftover, polls, decodeSlaveAddress, advanceAt, advance, start}
-use Rattle.slave.specs.Fits.{isListen, counts, runs, returns, closes, isOver, fitsAt, fits}
+use Rattle.slave.specs.Fits.{isListen, leavesOver, canReturn, counts, runs, returns, closes, isOver, fitsAt, fits}
 use Rattle.slave.specs.Claims.{StatesFit}
 
 -- ---- a command is below 12,288
@@ -130,25 +131,31 @@ module _ (chip : Chip) (size : ℕ) where
       c : counts (G RespondToWrite) d ≡ true
       c = open-counts RespondToWrite d true e
 
-      stored : eqb (d .count) (d .count) ≡ true
-      stored = eq-eqb (d .count) (d .count) refl
+      stored : eqb (d .count) (d .count) && true ≡ true
+      stored = both-true (itself (d .count)) refl
   polls-fit RespondToRead d a e =
       chosen (Fit RespondToRead) (hasBit AF a)
-      (λ _. at RespondToRead (ClearAf half.Read) _ (both-true c (both-true (either-true _ (eq-eqb (leftover size (d .count)) (leftover size (d .count)) refl)) refl)))
+      (λ _. at RespondToRead (ClearAf half.Read) _ (both-true c (both-true (both-true left (other-true (eqb (leftover size (d .count)) lowered) (itself (leftover size (d .count))))) refl)))
       (λ _. chosen (Fit RespondToRead) (hasBit STOPF a)
-      (λ _. at RespondToRead (ClearStopf stopf.End clearing.Status) _ (both-true c (both-true left refl)))
+      (λ _. at RespondToRead (ClearStopf stopf.End clearing.Status) _ (both-true c (both-true both refl)))
       (λ _. chosen (Fit RespondToRead) (hasBit ADDR a)
-      (λ _. at RespondToRead Ended _ (both-true c left))
+      (λ _. at RespondToRead Ended _ (both-true c both))
       (λ _. chosen (Fit RespondToRead) (hasBit TXE a) (λ _. at RespondToRead Send d e) (λ _. errors-fit RespondToRead d a e))))
     where
       c : counts (G RespondToRead) d ≡ true
       c = open-counts RespondToRead d true e
 
-      left : eqb (leftover size (takenOff a (d .count))) (leftover size (d .count)) || eqb (leftover size (takenOff a (d .count))) (leftover size (pred (d .count))) ≡ true
+      lowered : ℕ
+      lowered = leftover size (takenOff a (d .count))
+
+      left : leavesOver size (d .count) lowered ≡ true
       left =
-          chosen (λ (n : ℕ). eqb (leftover size n) (leftover size (d .count)) || eqb (leftover size n) (leftover size (pred (d .count))) ≡ true) (hasBit TXE a)
-          (λ _. either-true (eqb (leftover size (d .count)) (leftover size (pred (d .count)))) (eq-eqb (leftover size (d .count)) (leftover size (d .count)) refl))
-          (λ _. other-true (eqb (leftover size (pred (d .count))) (leftover size (d .count))) (eq-eqb (leftover size (pred (d .count))) (leftover size (pred (d .count))) refl))
+          chosen (λ (n : ℕ). leavesOver size (d .count) (leftover size n) ≡ true) (hasBit TXE a)
+          (λ _. either-true (eqb (leftover size (d .count)) (leftover size (pred (d .count)))) (itself (leftover size (d .count))))
+          (λ _. other-true (eqb (leftover size (pred (d .count))) (leftover size (d .count))) (itself (leftover size (pred (d .count)))))
+
+      both : canReturn RespondToRead size (d .count) lowered lowered ≡ true
+      both = both-true left (either-true (eqb lowered (leftover size (d .count))) (itself lowered))
 
   -- the slave is addressed
   match-fits : (st : MatchStage) (d : Progress) (a : ℕ) → runs (G Listen) true d ≡ true → Fit Listen (decodeSlaveAddress st d a)
@@ -156,9 +163,9 @@ module _ (chip : Chip) (size : ℕ) where
       chosen (Fit Listen) (hasBit GENCALL a) (λ _. at Listen Ended _ (both-true (open-counts Listen d true e) refl))
       (λ _. chosen (Fit Listen) (hasBit DUALF a) (λ _. at Listen (Match matching.Second) (saves a d) e) (λ _. at Listen (Match matching.Own) (saves a d) e))
   match-fits matching.Second d a e =
-      at Listen Ended _ (both-true (open-counts Listen d true e) (lt-ltb (fieldOf ADD2 a + kindNumber (kindOf (d .word)) * 4096) 12288 (command-below (kindOf (d .word)) (fieldOf ADD2 a) (omega (arith, second-below a)))))
+      at Listen Ended _ (both-true (open-counts Listen d true e) (both-true (lt-ltb (fieldOf ADD2 a + kindNumber (kindOf (d .word)) * 4096) 12288 (command-below (kindOf (d .word)) (fieldOf ADD2 a) (omega (arith, second-below a)))) refl))
   match-fits matching.Own d a e =
-      at Listen Ended _ (both-true (open-counts Listen d true e) (lt-ltb (addressNumber (ownAddress a) + kindNumber (kindOf (d .word)) * 4096) 12288 (command-below (kindOf (d .word)) (addressNumber (ownAddress a)) (own-below a))))
+      at Listen Ended _ (both-true (open-counts Listen d true e) (both-true (lt-ltb (addressNumber (ownAddress a) + kindNumber (kindOf (d .word)) * 4096) 12288 (command-below (kindOf (d .word)) (addressNumber (ownAddress a)) (own-below a))) refl))
 
   -- the counts
   stored-fits : (d : Progress) → leb (d .count) size ≡ true → leb (cond (ltb (d .count) size) (suc (d .count)) (d .count)) size ≡ true

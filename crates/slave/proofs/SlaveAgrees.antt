@@ -20,6 +20,7 @@ use Rattle.access.specs.declared.ending.Ending.the-variants.{Failed}
 use Rattle.access.specs.declared.need.Need.the-variants as need
 use Rattle.access.specs.Endings.{returned, failureOf}
 use Rattle.access.specs.Program.{Program, finish, access, keep, read, write, send, clock, spinFrom, late, checkTimeout}
+use Rattle.access.proofs.EndingLaws.{both-same}
 use Rattle.access.proofs.Agreement.{Agree, no-answers, ends, reads-first, reads, writes, asks, sends, drops, keeps, cases, cases-with, along, program-is}
 use Rattle.errors.specs.declared.Checked.{Checked}
 use Rattle.errors.specs.declared.Checked.the-variants as checked
@@ -45,6 +46,7 @@ use Rattle.slave.specs.declared.state.Move.{Move}
 use Rattle.slave.specs.Rust as rust
 use Rattle.slave.specs.Ours as ours
 use Rattle.slave.specs.Numbers.{commandNumber, statusNumber}
+use Rattle.slave.specs.Calls.{bothLeft}
 use Rattle.slave.specs.Machine.{to, saves, counted, fails, clearStopf, slaveHandleErrors, commanded, kindOf, ownAddress, leftover, takenOff, polls, owed, advance, slave}
 use Rattle.slave.proofs.CountLaws.{capped, capped-zero, capped-next, capped-byte, capped-left, capped-taken}
 
@@ -207,15 +209,15 @@ module _ (g : Setting) (bytes : List ℕ) where
 
   -- ---- reply
 
-  abbrev statusEnd : rust.SendStatus → Program
-  statusEnd s = finish (returned (statusNumber s))
+  abbrev countsEnd : ours.Counts → Program
+  countsEnd c = finish (bothLeft c)
 
   abbrev sending : ℕ → ℕ → ℕ → Program
   sending n m sent =
       spinFrom m sent (λ sent next. access (read Star1) (λ a. cond (hasBit AF a)
-      (rust.clear-af n last (λ _. statusEnd (rust.send-status (length bytes) sent)))
-      (cond (hasBit STOPF a) (rust.clear-stopf n last (λ _. statusEnd (rust.send-status (length bytes) (rust.taken-off (g .chip) a sent))))
-      (cond (hasBit ADDR a) (statusEnd (rust.send-status (length bytes) (rust.taken-off (g .chip) a sent)))
+      (rust.clear-af n last (λ _. countsEnd (ours.counts (g .chip) a (length bytes) sent)))
+      (cond (hasBit STOPF a) (rust.clear-stopf n last (λ _. countsEnd (ours.counts (g .chip) a (length bytes) (rust.taken-off (g .chip) a sent))))
+      (cond (hasBit ADDR a) (countsEnd (ours.counts (g .chip) a (length bytes) (rust.taken-off (g .chip) a sent)))
       (cond (hasBit TXE a) (access (send (getD bytes sent 0)) (λ _. next (suc sent)))
       (ours.check-errors-and-time (g .chip) a n last (λ _. next sent)))))))
 
@@ -224,12 +226,12 @@ module _ (g : Setting) (bytes : List ℕ) where
   unfolding owed advance
   reply-turns e l zero n at sent d = no-answers
   reply-turns e l (suc m) n at sent d =
-      reads-first refl (λ a. along (ap (λ x. polls x (g .size) (counted (capped (g .size) sent) d) a) (sym e)) (cases (hasBit AF a)
-      (clear-af-agrees m n at last _ _ (λ v. ends _ (ap (λ (x : ℕ). need.End (returned x)) left)))
-      (cases (hasBit STOPF a)
-      (clear-stopf-agrees m n at stopf.End last _ _ (λ v. ends _ (ap (λ (x : ℕ). need.End (returned x)) (taken a))))
+      reads-first refl (λ a. along (ap (λ x. polls x (g .size) (counted (capped (g .size) sent) d) a) (sym e)) (cases-with (hasBit AF a)
+      (λ af. clear-af-agrees m n at last _ _ (λ v. ends _ (ap need.End (both-same left (second-lowered a af)))))
+      (λ af. cases (hasBit STOPF a)
+      (clear-stopf-agrees m n at stopf.End last _ _ (λ v. ends _ (ap need.End (both-same (taken a) (second-stays a af)))))
       (cases (hasBit ADDR a)
-      (ends _ (ap (λ (x : ℕ). need.End (returned x)) (taken a)))
+      (ends _ (ap need.End (both-same (taken a) (second-stays a af))))
       (cases (hasBit TXE a)
       (sends (capped (g .size) sent) refl byte (λ _. along (ap (λ (x : ℕ). to Poll (counted x d)) (sym (capped-next (g .size) sent))) (reply-turns e l m n at (suc sent) d)))
       (check-errors-and-time-agrees m n at a _ _ (λ v. reply-turns e l m n at sent (saves v d))))))))
@@ -240,10 +242,18 @@ module _ (g : Setting) (bytes : List ℕ) where
       taken : (a : ℕ) → leftover (g .size) (takenOff a (capped (g .size) sent)) ≡ statusNumber (rust.send-status (length bytes) (rust.taken-off (g .chip) a sent))
       taken a = capped-taken (g .chip) (g .size) a sent ∙ ap (λ (x : ℕ). statusNumber (rust.send-status x (rust.taken-off (g .chip) a sent))) l
 
+      -- AF takes one off for the second count, where STOPF and ADDR have it off already
+      second-lowered : (a : ℕ) → hasBit AF a ≡ true → leftover (g .size) (takenOff a (capped (g .size) sent)) ≡ statusNumber (ours.counts (g .chip) a (length bytes) sent .second)
+      second-lowered a af = rw af (taken a)
+
+      second-stays : (a : ℕ) → hasBit AF a ≡ false
+          → leftover (g .size) (takenOff a (capped (g .size) sent)) ≡ statusNumber (ours.counts (g .chip) a (length bytes) (rust.taken-off (g .chip) a sent) .second)
+      second-stays a af = rw af (taken a)
+
       byte : getD bytes (capped (g .size) sent) 0 ≡ getD bytes sent 0
       byte = ap (λ (x : ℕ). getD bytes (capped x sent) 0) l ∙ capped-byte bytes sent
 
   pub blocking-respond-to-read-agrees : g .kind ≡ RespondToRead → g .size ≡ length bytes → (n at : ℕ) (d : Progress) → d .count ≡ 0
-      → Ag n at (ours.blocking-respond-to-read (g .chip) bytes n last statusEnd) (to Poll d)
+      → Ag n at (ours.blocking-respond-to-read (g .chip) bytes n last countsEnd) (to Poll d)
   unfolding rust.blocking-respond-to-read
   blocking-respond-to-read-agrees e l n at d z = along (ap (λ (x : ℕ). to Poll (counted x d)) (capped-zero (g .size) ∙ sym z)) (reply-turns e l n n at 0 d)

@@ -6,9 +6,10 @@ use Prim.Native.Nat.{ℕ, _≤_}
 use lib.Dec.{ltb}
 use lib.ListN.{length}
 use Rattle.registers.specs.declared.chip.Chip.{Chip}
+use Rattle.access.specs.declared.ending.Ending.{Ending}
 use Rattle.access.specs.declared.ending.Error.{Error}
 use Rattle.access.specs.declared.ending.Error.the-variants.{BufferTooLong}
-use Rattle.access.specs.Endings.{done, returned, failed}
+use Rattle.access.specs.Endings.{done, returned, returnedBoth, failed}
 use Rattle.access.specs.Program.{Program, callOf}
 use Rattle.access.specs.Record.{Shown, noMore, shownOf}
 use Rattle.access.specs.Machine.{shownFrom}
@@ -70,11 +71,14 @@ rustProgram turns chip RespondToWrite l = callOf (rust.blocking-respond-to-write
 rustProgram turns chip RespondToRead l =
     callOf (rust.blocking-respond-to-read chip (rust.slave-handle-errors chip) rust.SendStatus (λ star1. rust.send-status) (l .reply)) (λ s. returned (statusNumber s)) turns
 
--- ours
+-- ours; a reply returns both its counts
+abbrev pub bothLeft : ours.Counts → Ending
+bothLeft c = returnedBoth (statusNumber (c .status)) (statusNumber (c .second))
+
 abbrev pub oursProgram : ℕ → Chip → Kind → SlaveLent → Program
 oursProgram turns chip Listen l = callOf (ours.blocking-listen chip) (λ c. returned (commandNumber c)) turns
 oursProgram turns chip RespondToWrite l = callOf (ours.blocking-respond-to-write chip (l .room)) (λ n. returned n) turns
-oursProgram turns chip RespondToRead l = callOf (ours.blocking-respond-to-read chip (l .reply)) (λ s. returned (statusNumber s)) turns
+oursProgram turns chip RespondToRead l = callOf (ours.blocking-respond-to-read chip (l .reply)) (λ c. bothLeft c) turns
 
 unfoldable pub rustSlave : ℕ → Chip → Kind → SlaveLent → List ℕ → Shown
 rustSlave turns chip x l answers = shownOf 0 (rustProgram turns chip x l) answers

@@ -7,7 +7,9 @@ use Prim.Native.Nat.{ℕ, _<_}
 use lib.ListN.{length, take}
 use Rattle.registers.specs.declared.chip.Chip.{Chip}
 use Rattle.access.specs.declared.ending.Ending.{Ending}
+use Rattle.access.specs.declared.ending.Failure.{Failure}
 use Rattle.access.specs.declared.ending.Error.the-variants.{ReservedAddress}
+use Rattle.access.specs.Program.{Program, Blocking}
 use Rattle.access.specs.Machine.{shownFrom}
 use Rattle.access.specs.Record.{DifferInPayload, Same, SameStruck}
 use Rattle.alike.specs.Like.{forgetting}
@@ -17,6 +19,8 @@ use Rattle.slave.specs.declared.state.Kind.{Kind}
 use Rattle.slave.specs.declared.state.Kind.the-variants.{RespondToWrite, RespondToRead}
 use Rattle.slave.specs.declared.state.Setting.{Setting}
 use Rattle.slave.specs.declared.state.Move.{Move}
+use Rattle.slave.specs.Rust as rust
+use Rattle.slave.specs.Ours as ours
 use Rattle.slave.specs.Reserved.{configReserved}
 use Rattle.slave.specs.Init.{configFault, initRefusal, initMachine, started}
 use Rattle.slave.specs.Machine.{advance, start}
@@ -33,6 +37,12 @@ pub record SlaveIsOurs : Type 0 where
       → rustInit turns c answers ≡ shownFrom initMachine [] (started c) answers
   pub same : (chip : Chip) (x : Kind) (l : SlaveLent) → Accepted x l → (turns : ℕ) (answers : List ℕ) → length answers < turns
       → slaveShown chip x l answers ≡ oursSlave turns chip x l answers
+
+-- a reply with its second count forgotten IS the Rust's, whatever the error check and what follows
+abbrev pub CountsAsTheRust : Type 0
+CountsAsTheRust = (chip : Chip) (check : ℕ → Blocking (Unit {0})) (bytes : List ℕ) (turns : ℕ) (h : Failure → Program) (k : rust.SendStatus → Program)
+    → rust.blocking-respond-to-read chip check ours.Counts (ours.counts chip) bytes turns h (λ c. k (c .status))
+    ≡ rust.blocking-respond-to-read chip check rust.SendStatus (λ star1. rust.send-status) bytes turns h k
 
 -- the Rust's record and arrived bytes are those of our text, and its end is our end, read as the Rust's
 abbrev pub OursIsTheRust : Type 0

@@ -37,14 +37,19 @@ limit Listen size = 0
 limit RespondToWrite size = size
 limit RespondToRead size = suc size
 
--- what a call can return: a command, the bytes stored, or the bytes left over with one taken off the count or none
-abbrev pub canReturn : Kind → ℕ → ℕ → ℕ → Bool
-canReturn Listen size count v = ltb v 12288
-canReturn RespondToWrite size count v = eqb v count
-canReturn RespondToRead size count v = eqb v (leftover size count) || eqb v (leftover size (pred count))
+-- the bytes left over with one taken off the count or none
+abbrev pub leavesOver : ℕ → ℕ → ℕ → Bool
+leavesOver size count v = eqb v (leftover size count) || eqb v (leftover size (pred count))
+
+-- what a call can return: a command, the bytes stored, or the bytes left over twice. AF takes one off for the second alone, so that the first is
+-- the same or has none taken off
+abbrev pub canReturn : Kind → ℕ → ℕ → ℕ → ℕ → Bool
+canReturn Listen size count v x = ltb v 12288 && eqb x 0
+canReturn RespondToWrite size count v x = eqb v count && eqb x 0
+canReturn RespondToRead size count v x = leavesOver size count x && (eqb v x || eqb v (leftover size count))
 
 abbrev pub returnsIn : Kind → ℕ → ℕ → Ending → Bool
-returnsIn x size count (Done o) = canReturn x size count (o .value)
+returnsIn x size count (Done o) = canReturn x size count (o .value) (o .second)
 returnsIn x size count (Failed f) = false
 
 module _ (g : Setting) where

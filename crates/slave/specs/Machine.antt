@@ -14,7 +14,7 @@ use Rattle.access.specs.declared.ending.Ending.{Ending}
 use Rattle.access.specs.declared.ending.Ending.the-variants.{Failed}
 use Rattle.access.specs.declared.need.Need.{Need}
 use Rattle.access.specs.declared.need.Need.the-variants as need
-use Rattle.access.specs.Endings.{done, returned, failureOf}
+use Rattle.access.specs.Endings.{done, returned, returnedBoth, failureOf}
 use Rattle.access.specs.Program.{late}
 use Rattle.access.specs.Machine.{Machine}
 use Rattle.errors.specs.Classes.{errorOf, decided}
@@ -135,14 +135,15 @@ leftover size sent = size - sent
 abbrev pub takenOff : ℕ → ℕ → ℕ
 takenOff a sent = cond (hasBit TXE a) sent (pred sent)
 
-abbrev pub sentEnding : ℕ → ℕ → Progress → Progress
-sentEnding size sent d = endsWith (returned (leftover size sent)) d
+-- the bytes left over by the Rust's count of those sent, and by the second
+abbrev pub sentEnding : ℕ → ℕ → ℕ → Progress → Progress
+sentEnding size sent second d = endsWith (returnedBoth (leftover size sent) (leftover size second)) d
 
 abbrev pub blockingRespondToRead : ℕ → Progress → ℕ → Move
 blockingRespondToRead size d a =
-    cond (hasBit AF a) (to (ClearAf half.Read) (sentEnding size (d .count) d))
-    (cond (hasBit STOPF a) (to (ClearStopf stopf.End clearing.Status) (sentEnding size (takenOff a (d .count)) d))
-    (cond (hasBit ADDR a) (to Ended (sentEnding size (takenOff a (d .count)) d))
+    cond (hasBit AF a) (to (ClearAf half.Read) (sentEnding size (d .count) (takenOff a (d .count)) d))
+    (cond (hasBit STOPF a) (to (ClearStopf stopf.End clearing.Status) (sentEnding size (takenOff a (d .count)) (takenOff a (d .count)) d))
+    (cond (hasBit ADDR a) (to Ended (sentEnding size (takenOff a (d .count)) (takenOff a (d .count)) d))
     (cond (hasBit TXE a) (to Send d) (slaveHandleErrors d a))))
 
 -- a turn of the loop, by its status word

@@ -2,7 +2,7 @@
 ghost use mathlib.Core.Path.{_≡_};
 ghost use Prim.Native.Nat.{ℕ};
 ghost use lib.ListN.{length};
-ghost use Rattle.access.specs.Endings.{returned};
+ghost use Rattle.access.specs.Endings.{returnedBoth};
 ghost use Rattle.access.specs.declared.need.Need.the-variants as need;
 ghost use Rattle.block.specs.Bytes32.{blockSize};
 ghost use Rattle.slave.specs.declared.stage.Stage.the-variants.{Ended};
@@ -39,12 +39,12 @@ pub fn modifies(block: &mut [u8], phase: u8, old: u16, register: Register, new: 
     asked::write(register, new)
 }
 
-// The call ends and returns this value.
-pub fn returns(block: &mut [u8], value: u16) -> u64
+// The call ends and returns this value, and a second one.
+pub fn returns(block: &mut [u8], value: u16, second: u16) -> u64
     requires { ⌜ length (now block) ≡ blockSize ⌝ }
-    ensures { λ r. ⌜ Goes (now (block .entry)) (now (block .exit)) r (λ (d : Progress). to Ended (endsWith (returned value) d)) ⌝ }
+    ensures { λ r. ⌜ Goes (now (block .entry)) (now (block .exit)) r (λ (d : Progress). to Ended (endsWith (returnedBoth value second) d)) ⌝ }
 {
-    let end = ending::returned(value);
+    let end = ending::returned_both(value, second);
     end_image::put(block, end);
     put::to(block, stage::ENDED, 0, 0);
     asked::end(end)

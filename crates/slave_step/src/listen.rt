@@ -89,7 +89,7 @@ pub fn decode_slave_address(block: &mut [u8], entry: u8, what: u8, phase: u8, an
     match phase {
         stage::MATCH_STATUS => {
             if word::bit(answer, bits::GENCALL) {
-                return go::returns(block, 0);
+                return go::returns(block, 0, 0);
             }
             put::saves(block, answer);
             if word::bit(answer, bits::DUALF) {
@@ -102,12 +102,12 @@ pub fn decode_slave_address(block: &mut [u8], entry: u8, what: u8, phase: u8, an
         stage::MATCH_SECOND => {
             let star2 = bytes32::word_at(block, at::WORD);
             let address = word::field_of(answer, fields::ADD2);
-            go::returns(block, commanded(star2, address))
+            go::returns(block, commanded(star2, address), 0)
         }
         _ => {
             let star2 = bytes32::word_at(block, at::WORD);
             let address = own_address(answer);
-            go::returns(block, commanded(star2, address))
+            go::returns(block, commanded(star2, address), 0)
         }
     }
 }

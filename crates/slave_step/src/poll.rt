@@ -10,7 +10,7 @@ ghost use Rattle.slave.specs.declared.stage.Stage.the-variants.{ClearStopf};
 ghost use Rattle.slave.specs.declared.state.Progress.{Progress};
 ghost use Rattle.slave.specs.declared.state.Setting.{Setting};
 ghost use Rattle.slave.specs.Machine.{to, endsWith, slaveHandleErrors, blockingListen, blockingRespondToWrite, blockingRespondToRead, leftover, takenOff, checkErrorsAndTime};
-ghost use Rattle.access.specs.Endings.{returned};
+ghost use Rattle.access.specs.Endings.{returnedBoth};
 ghost use Rattle.slave_step.specs.Held.{blockAt, Moves, Goes, GoesCounting, Group, GroupCounting};
 use crate::go;
 use crate::put;
@@ -55,11 +55,11 @@ fn blocking_listen(block: &mut [u8], status: u16) -> u64
 }
 
 // What is returned is known, and STOPF is to be cleared.
-fn stops(block: &mut [u8], value: u16) -> u64
+fn stops(block: &mut [u8], value: u16, second: u16) -> u64
     requires { ⌜ length (now block) ≡ blockSize ⌝ }
-    ensures { λ r. ⌜ Goes (now (block .entry)) (now (block .exit)) r (λ (d : Progress). to (ClearStopf stopf.End clearing.Status) (endsWith (returned value) d)) ⌝ }
+    ensures { λ r. ⌜ Goes (now (block .entry)) (now (block .exit)) r (λ (d : Progress). to (ClearStopf stopf.End clearing.Status) (endsWith (returnedBoth value second) d)) ⌝ }
 {
-    end_image::put(block, ending::returned(value));
+    end_image::put(block, ending::returned_both(value, second));
     put::to(
         block,
         stage::CLEAR_STOPF,
@@ -82,10 +82,10 @@ fn blocking_respond_to_write(block: &mut [u8], size: u16, count: u32, status: u1
         return asked::drop();
     }
     if word::bit(status, bits::STOPF) {
-        return stops(block, (count % 65536) as u16);
+        return stops(block, (count % 65536) as u16, 0);
     }
     if word::bit(status, bits::ADDR) {
-        return go::returns(block, (count % 65536) as u16);
+        return go::returns(block, (count % 65536) as u16, 0);
     }
     slave_handle_errors(block, status)
 }
@@ -118,21 +118,26 @@ fn taken_off(status: u16, sent: u32) -> u32
     }
 }
 
-// AF is the master's NACK behind the last byte; TXE asks for the next.
+// AF is the master's NACK behind the last byte; TXE asks for the next. The second count has the byte taken off at AF too, where the
+// Rust's keeps it.
 fn blocking_respond_to_read(block: &mut [u8], size: u16, count: u32, status: u16) -> u64
     requires { ⌜ length (now block) ≡ blockSize ⌝ }
     ensures { λ r. ⌜ GoesCounting size count (now (block .entry)) (now (block .exit)) r (λ (d : Progress). blockingRespondToRead size d status) ⌝ }
 {
     if word::bit(status, bits::AF) {
-        end_image::put(block, ending::returned(left_over(size, count)));
+        let left = left_over(size, count);
+        let second = left_over(size, taken_off(status, count));
+        end_image::put(block, ending::returned_both(left, second));
         put::to(block, stage::CLEAR_AF, 0, stage::HALF_READ);
         return asked::read(Register::Star1);
     }
     if word::bit(status, bits::STOPF) {
-        return stops(block, left_over(size, taken_off(status, count)));
+        let left = left_over(size, taken_off(status, count));
+        return stops(block, left, left);
     }
     if word::bit(status, bits::ADDR) {
-        return go::returns(block, left_over(size, taken_off(status, count)));
+        let left = left_over(size, taken_off(status, count));
+        return go::returns(block, left, left);
     }
     if word::bit(status, bits::TXE) {
         put::to(block, stage::SEND, 0, 0);

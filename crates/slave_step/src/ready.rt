@@ -27,16 +27,18 @@ fn counts(entry: u8, size: u16, count: u32) -> bool
     }
 }
 
-// What a call can return: a command, the bytes stored, or the bytes left over with one taken off the count or none.
-fn can_return(entry: u8, size: u16, count: u32, value: u16) -> bool
-    ensures { λ r. ⌜ r ≡ canReturn (kindOf entry) size count value ⌝ }
+// What a call can return: a command, the bytes stored, or the bytes left over twice, with one taken off the count or none. The first is
+// the second, or has none taken off.
+fn can_return(entry: u8, size: u16, count: u32, value: u16, second: u16) -> bool
+    ensures { λ r. ⌜ r ≡ canReturn (kindOf entry) size count value second ⌝ }
 {
     match entry {
-        numbers::LISTEN => value < 12288,
-        numbers::RESPOND_TO_WRITE => value as u32 == count,
+        numbers::LISTEN => (value < 12288) & (second == 0),
+        numbers::RESPOND_TO_WRITE => (value as u32 == count) & (second == 0),
         _ => {
-            (value == poll::left_over(size, count))
-                | (value == poll::left_over(size, poll::one_less(count)))
+            let none_off = poll::left_over(size, count);
+            let one_off = poll::left_over(size, poll::one_less(count));
+            ((second == none_off) | (second == one_off)) & ((value == second) | (value == none_off))
         }
     }
 }
@@ -46,7 +48,9 @@ fn returns(block: &[u8], entry: u8, size: u16, count: u32) -> bool
     requires { ⌜ length (now block) ≡ blockSize ⌝ }
     ensures { λ r. ⌜ r ≡ returnsIn (kindOf entry) size count (endingAt (now (block .entry))) ⌝ }
 {
-    (block[at::ERROR] == 0) & can_return(entry, size, count, bytes32::word_at(block, at::VALUE))
+    let value = bytes32::word_at(block, at::VALUE);
+    let second = bytes32::word_at(block, at::EXTRA);
+    (block[at::ERROR] == 0) & can_return(entry, size, count, value, second)
 }
 
 // The stages in which what is to be returned is known: STOPF is cleared at the end of a response, or AF.

@@ -12,8 +12,8 @@ use Rattle.slave_step.proofs.go.returns.Tie as tie
 returns : tie.Need-returns
 returns c =
     λ g d n w p e.
-    let x = c .before .before .before .before .before .before .before .before .before .returned .result in
-    goes (ap (λ (y : Ending). to Ended (endsWith y d)) (c .before .before .before .before .before .before .before .before .before .returned .ensures))
+    let x = c .before .before .before .before .before .before .before .before .before .returned-both .result in
+    goes (ap (λ (y : Ending). to Ended (endsWith y d)) (c .before .before .before .before .before .before .before .before .before .returned-both .ensures))
     (moves (c .before .before .before .to .ensures .block g (endsWith x d) n w p (ends-at g d n w p e x (c .before .before .before .before .before .before .before .put .ensures .1))) (c .end .ensures))
 
 pub returns-spec : {M : Type 1} → statement M

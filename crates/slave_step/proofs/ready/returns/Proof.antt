@@ -15,16 +15,19 @@ use Rattle.slave_step.proofs.ready.returns.Tie as tie
 
 returns : tie.Need-returns
 returns c =
-    let b = c .before .before .before .before .args .block .now in
-    let k = kindOf (c .before .before .before .before .args .entry) in
-    let can = c .can-return .ensures ∙ ap (canReturn k (c .before .before .before .before .args .size) (c .before .before .before .before .args .count)) (c .before .word-at .ensures) in
-    ap (λ (t : Bool). eqb (getD b 7 0) 0 && t) can ∙ returns-told k (c .before .before .before .before .args .size) (c .before .before .before .before .args .count) (getD b 7 0) (wordAt b 22) (wordAt b 30)
+    let b = c .before .before .before .before .before .args .block .now in
+    let k = kindOf (c .before .before .before .before .before .args .entry) in
+    let size = c .before .before .before .before .before .args .size in
+    let count = c .before .before .before .before .before .args .count in
+    let can = c .can-return .ensures ∙ ap (λ (v : ℕ). canReturn k size count v (c .before .before .word-at2 .result)) (c .before .before .before .word-at .ensures) ∙ ap (canReturn k size count (wordAt b 22)) (c .before .before .word-at2 .ensures) in
+    ap (λ (t : Bool). eqb (getD b 7 0) 0 && t) can ∙ returns-told k size count (getD b 7 0) (wordAt b 22) (wordAt b 30)
 
 pub returns-spec : {M : Type 1} → statement M
 returns-spec =
     tie.close
     (tie.spec
-    (λ c. search needs)
     (λ c κs. search needs)
+    (λ c κs. search needs)
+    (λ c. search needs)
     (λ c κs. search needs)
     returns)
