@@ -1,7 +1,7 @@
 -- Laws of the errors that a call can meet.
 -- Assumes nothing.
 use Prim.Native.Nat.{ℕ, _<_, _≤_}
-use mathlib.Core.Path.{_≡_, refl, sym, ap, _∙_, subst}
+use mathlib.Core.Path.{_≡_, refl, sym, ap, ap₂, _∙_, subst}
 use mathlib.Core.Bool.{Bool, true, false, cond, not, _&&_, _||_, true≢false}
 use native.Mathlib.Omega.{arith}
 use lib.Dec.{eqb}
@@ -92,7 +92,9 @@ met-small chip nack f = go (errorOf chip nack (f .flags)) (finds chip nack (f .f
 
 -- an error that no check finds, by its number
 pub unchecked-told : (nack : Bool) (n : ℕ) → n < 256 → eqb n 4 || (nack && eqb n 2) ≡ not (eqb n 0) && unchecked nack (access.errorOf n)
-unchecked-told nack n h = rw (by-number 4 (omega arith) (omega arith), by-number 2 (omega arith) (omega arith)) (one (not (eqb n 0)) (eqb (errorNumber (access.errorOf n)) 4) (eqb (errorNumber (access.errorOf n)) 2) nack)
+unchecked-told nack n h =
+    ap₂ (λ (x y : Bool). x || (nack && y)) (by-number 4 (omega arith) (omega arith)) (by-number 2 (omega arith) (omega arith))
+    ∙ one (not (eqb n 0)) (eqb (errorNumber (access.errorOf n)) 4) (eqb (errorNumber (access.errorOf n)) 2) nack
   where
     by-number : (k : ℕ) → 0 < k → k ≤ 6 → eqb n k ≡ not (eqb n 0) && eqb (errorNumber (access.errorOf n)) k
     by-number k a l = turned n k ∙ small-told k n a l h ∙ ap (λ (b : Bool). not (eqb n 0) && b) (turned k (errorNumber (access.errorOf n)))
