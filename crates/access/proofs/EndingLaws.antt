@@ -126,6 +126,15 @@ error-range = bytes (λ n. not (eqb n 0) && (not (eqb n 7) && ltb n 28)) (λ n. 
 small-or-far : (n : ℕ) → n < 256 → true ≡ eqb (errorNumber (errorOf n)) n || ((eqb n 0 || ltb 6 n) && ltb 6 (errorNumber (errorOf n)))
 small-or-far = bytes (λ n. eqb (errorNumber (errorOf n)) n || ((eqb n 0 || ltb 6 n) && ltb 6 (errorNumber (errorOf n)))) (λ n. true) refl
 
+pub small-number : (n : ℕ) → n < 256 → errorNumber (errorOf n) ≤ 6 → n ≤ 6
+small-number n l h = go (eqb (errorNumber (errorOf n)) n) refl (small-or-far n l)
+  where
+    go : (b : Bool) → eqb (errorNumber (errorOf n)) n ≡ b → true ≡ b || ((eqb n 0 || ltb 6 n) && ltb 6 (errorNumber (errorOf n))) → n ≤ 6
+    go true e q = subst (λ (m : ℕ). m ≤ 6) (eqb-true (errorNumber (errorOf n)) n e) h
+    go false e q =
+        let y : 6 < errorNumber (errorOf n) = ltb-true 6 (errorNumber (errorOf n)) (second-true (eqb n 0 || ltb 6 n) (ltb 6 (errorNumber (errorOf n))) (sym q)) in
+        omega (arith, h, y)
+
 pub small-told : (k n : ℕ) → 0 < k → k ≤ 6 → n < 256 → eqb k n ≡ not (eqb n 0) && eqb k (errorNumber (errorOf n))
 small-told k n a h l = go (eqb (errorNumber (errorOf n)) n) (eqb n 0) refl refl
   where

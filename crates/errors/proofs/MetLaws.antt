@@ -18,7 +18,7 @@ use Rattle.access.specs.Endings as access
 use Rattle.access.specs.declared.ending.Ending.the-variants as ending
 use Rattle.access.proofs.Choice.{first-true, second-true, both-true}
 use Rattle.access.proofs.Compared.{itself, turned}
-use Rattle.access.proofs.EndingLaws.{small-told}
+use Rattle.access.proofs.EndingLaws.{small-told, small-number}
 use Rattle.errors.specs.declared.Checked.{Checked}
 use Rattle.errors.specs.declared.Checked.the-variants.{Fine, Failed}
 use Rattle.errors.specs.Classes.{errorOf, decided}
@@ -69,7 +69,7 @@ unfolding isMet errorFlags
 unchecked-met chip nack e = ap (λ (c : Checked). decided c (λ found. sameFailure found (failureOf e)) (unchecked nack e)) (no-flags chip nack 0 refl)
 
 -- what can be met is one of 1 to 6
-pub met-small : (chip : Chip) (nack : Bool) (f : Failure) → isMet chip nack f ≡ true → errorNumber (f .error) ≤ 6
+met-small : (chip : Chip) (nack : Bool) (f : Failure) → isMet chip nack f ≡ true → errorNumber (f .error) ≤ 6
 unfolding isMet
 met-small chip nack f = go (errorOf chip nack (f .flags)) (finds chip nack (f .flags))
   where
@@ -89,6 +89,13 @@ met-small chip nack f = go (errorOf chip nack (f .flags)) (finds chip nack (f .f
     go Fine p e = either-small (errorNumber (f .error)) (eqb (errorNumber (f .error)) 4) (eqb (errorNumber (f .error)) 2) refl refl (second-true (eqb (f .flags) 0) (unchecked nack (f .error)) e)
 
 -- ---- by the words of an end
+
+pub met-number : (chip : Chip) (nack : Bool) (n v x : ℕ) → n < 256 → hasFailed chip nack (endingOf n v x) ≡ true → n ≤ 6
+met-number chip nack n v x h = go (eqb n 0) refl
+  where
+    go : (b : Bool) → eqb n 0 ≡ b → hasFailed chip nack (cond b (returnedBoth v x) (ending.Failed (flagged (access.errorOf n) x))) ≡ true → n ≤ 6
+    go true z q = let m = eqb-true n 0 z in omega (arith, m)
+    go false z q = small-number n h (met-small chip nack (flagged (access.errorOf n) x) q)
 
 -- an error that no check finds, by its number
 pub unchecked-told : (nack : Bool) (n : ℕ) → n < 256 → eqb n 4 || (nack && eqb n 2) ≡ not (eqb n 0) && unchecked nack (access.errorOf n)
