@@ -80,7 +80,7 @@ whole =
     start
     (readText Star1 1 ++ (readText Ctlr1 0 ++ (readText Star2 1 ++ (writeText Datar 0xa1 ++ (readText Star1 2 ++ (readText Ctlr1 0 ++ (writeText Ctlr1 0 ++ (readText Star2 0
     ++ (readText Ctlr1 0 ++ (writeText Ctlr1 0x200 ++ (readText Star1 0x40 ++ (readText Star1 0x40 ++ (readText Datar 0x1a5 ++ (readText Ctlr1 0 ++ (readText Ctlr1 0 ++ (writeText Ctlr1 0
-    ++ (arrivedText (0xa5 ∷ []) ++ endText 0 17)))))))))))))))))
+    ++ (arrivedText (0xa5 ∷ []) ++ endText 0 17 0)))))))))))))))))
 
 all-text : textOf (ourPlay 52 0 0x50 (said all)) ≡ whole
 unfolding oursWith operationsOf rust.blocking-transaction rust.validate-address rust.validate-operations rust.validate-from rust.checked-add rust.transact rust.blocking-read-iter rust.start-and-address rust.launch-start rust.wait-stop-finished rust.wait-flag ours.check-and-clear-error-flags check-errors errorOf rust.abort-transfer rust.finish-transfer rust.generate-stop rust.recv-next rust.recv-byte hasBit putBit fieldOf putField errorFlags clearError addressWord checkTimeout late
@@ -108,7 +108,7 @@ to80-refused : causeOf 0 0x80 saidNothing ≡ some InvalidAddress
 unfolding refusal shaped
 to80-refused = refl
 
-to80-printed : (read : List ℕ) → 65535 ≤ length read → printedOf (inputOf to80) read ≡ arrivedText [] ++ endText 9 0
+to80-printed : (read : List ℕ) → 65535 ≤ length read → printedOf (inputOf to80) read ≡ arrivedText [] ++ endText 9 0 0
 to80-printed read long = bench-prints .refused to80 read long 0 0x80 saidNothing to80-said InvalidAddress to80-refused
 
 to80-rust : rustPlay 1 0 0x80 saidNothing ≡ noMore (some (failed InvalidAddress))
