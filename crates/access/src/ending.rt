@@ -135,11 +135,13 @@ pub fn ending_number(ending: Ending) -> u64
     ensures { λ r. ⌜ r ≡ endingNumber ending ⌝ }
     ensures { λ _. ⌜ EndHoldsWords ending ⌝ }
 {
-    words_number(
-        ending_error(ending),
-        ending_value(ending),
-        ending_extra(ending),
-    )
+    match ending {
+        Ending::Done(outcome) => words_number(0, outcome.value, outcome.second),
+        Ending::Failed(failure) => {
+            let error = failure.error;
+            words_number(error_number(error), 0, failure.flags)
+        }
+    }
 }
 
 // The error of a number.
