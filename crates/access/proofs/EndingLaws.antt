@@ -51,6 +51,10 @@ error-back NoSuchDate = record { back = refl; above = omega arith; below = omega
 error-back WrongDate = record { back = refl; above = omega arith; below = omega arith }
 error-back MapLength = record { back = refl; above = omega arith; below = omega arith }
 
+-- so the extra number of an error stands in bits 48 to 63
+pub error-place : (e : Error) → extraPlace (errorNumber e) ≡ 281474976710656
+error-place e = ap (λ (b : Bool). cond b 4294967296 281474976710656) (ne-eqb (errorNumber e) 0 (λ z. let a = error-back e .above in omega (arith, a, z)))
+
 -- what is done, by both its numbers
 pub both-same : {v u x y : ℕ} → v ≡ u → x ≡ y → returnedBoth v x ≡ returnedBoth u y
 both-same p q = λ i. returnedBoth (p i) (q i)

@@ -130,7 +130,7 @@ pub fn words_number(error: u8, value: u16, extra: u16) -> u64
     error as u64 * 256 + value as u64 * 65536 + extra as u64 * 281474976710656
 }
 
-// An ending as C sees it.
+// An ending as C sees it. (An error's number is not tested for 0 again: the compiler would make a branch for each.)
 pub fn ending_number(ending: Ending) -> u64
     ensures { λ r. ⌜ r ≡ endingNumber ending ⌝ }
     ensures { λ _. ⌜ EndHoldsWords ending ⌝ }
@@ -139,7 +139,7 @@ pub fn ending_number(ending: Ending) -> u64
         Ending::Done(outcome) => words_number(0, outcome.value, outcome.second),
         Ending::Failed(failure) => {
             let error = failure.error;
-            words_number(error_number(error), 0, failure.flags)
+            error_number(error) as u64 * 256 + failure.flags as u64 * 281474976710656
         }
     }
 }
