@@ -91,4 +91,3 @@ no-flags chip nack w z =
     rest false true false = refl
     rest false false true = refl
     rest false false false = refl
-

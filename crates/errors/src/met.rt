@@ -4,8 +4,8 @@ ghost use mathlib.Core.Bool.{not, _&&_};
 ghost use lib.Dec.{eqb};
 ghost use Rattle.access.specs.Endings.{endingOf, errorOf};
 ghost use Rattle.errors.specs.Met.{unchecked, hasFailed};
-use access::ending;
 use crate::Checked;
+use access::ending;
 use registers::Chip;
 
 // The error of this number is one that no error check finds.

@@ -5,11 +5,11 @@ ghost use Rattle.access.specs.Endings.{isDone};
 ghost use Rattle.block.specs.declared.fields.Fields.{Fields};
 ghost use Rattle.block.specs.Bytes32.{blockSize, bytesOf};
 ghost use Rattle.images.specs.EndImage.{endingAt, isEndingAt, isPlainAt, hasFailedAt, withEnd};
+use crate::numbers;
 use access::Ending;
 use access::ending;
 use block::at;
 use block::bytes32;
-use crate::numbers;
 use errors::met;
 
 // The block says this ending.
