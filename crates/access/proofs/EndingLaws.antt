@@ -51,10 +51,6 @@ error-back NoSuchDate = record { back = refl; above = omega arith; below = omega
 error-back WrongDate = record { back = refl; above = omega arith; below = omega arith }
 error-back MapLength = record { back = refl; above = omega arith; below = omega arith }
 
--- so the extra number of an error stands in bits 48 to 63
-pub error-place : (e : Error) → extraPlace (errorNumber e) ≡ 281474976710656
-error-place e = ap (λ (b : Bool). cond b 4294967296 281474976710656) (ne-eqb (errorNumber e) 0 (λ z. let a = error-back e .above in omega (arith, a, z)))
-
 -- what is done, by both its numbers
 pub both-same : {v u x y : ℕ} → v ≡ u → x ≡ y → returnedBoth v x ≡ returnedBoth u y
 both-same p q = λ i. returnedBoth (p i) (q i)
@@ -154,27 +150,27 @@ small-told k n a h l = go (eqb (errorNumber (errorOf n)) n) (eqb n 0) refl refl
         let y : 6 < errorNumber (errorOf n) = ltb-true 6 (errorNumber (errorOf n)) (second-true (eqb n 0 || ltb 6 n) (ltb 6 (errorNumber (errorOf n))) f) in
         ne-eqb k n (λ w. omega (arith, h, x, w)) ∙ sym (ne-eqb k (errorNumber (errorOf n)) (λ w. omega (arith, h, y, w)))
 
-pub ending-range : (n v x : ℕ) → n < 256 → isEnding n v x ≡ (not (eqb n 7) && ltb n 28) && isPlain n v x
+pub ending-range : (n v x : ℕ) → n < 256 → isEnding n v x ≡ (not (eqb n 7) && ltb n 28) && isPlain n v
 unfolding isEnding
 ending-range n v x h = go (eqb n 0) refl
   where
-    go : (b : Bool) → eqb n 0 ≡ b → eqb (endingError (endingOf n v x)) n && (eqb (endingValue (endingOf n v x)) v && eqb (endingExtra (endingOf n v x)) x) ≡ (not (eqb n 7) && ltb n 28) && isPlain n v x
+    go : (b : Bool) → eqb n 0 ≡ b → eqb (endingError (endingOf n v x)) n && (eqb (endingValue (endingOf n v x)) v && eqb (endingExtra (endingOf n v x)) x) ≡ (not (eqb n 7) && ltb n 28) && isPlain n v
     go true e = rw (eqb-true n 0 e, itself v, itself x)
     go false e = rw (e, error-range n h, e, turned 0 v, itself x, with-true (eqb v 0))
 
 -- words that are an end's say nothing that it has no use for; and so do others whose number is small
-pub ending-plain : (n v x : ℕ) → isEnding n v x ≡ true → isPlain n v x ≡ true
+pub ending-plain : (n v x : ℕ) → isEnding n v x ≡ true → isPlain n v ≡ true
 unfolding isEnding
 ending-plain n v x e = go (eqb n 0) refl
   where
     rest : eqb (endingValue (endingOf n v x)) v && eqb (endingExtra (endingOf n v x)) x ≡ true
     rest = second-true (eqb (endingError (endingOf n v x)) n) (eqb (endingValue (endingOf n v x)) v && eqb (endingExtra (endingOf n v x)) x) e
 
-    go : (b : Bool) → eqb n 0 ≡ b → isPlain n v x ≡ true
+    go : (b : Bool) → eqb n 0 ≡ b → isPlain n v ≡ true
     go true z = rw z
     go false z = let r : eqb 0 v && eqb x x ≡ true = rw z at rest in rw (z, turned v 0) (first-true (eqb 0 v) (eqb x x) r)
 
-pub plain-ending : (n v x : ℕ) → n ≤ 6 → isPlain n v x ≡ true → isEnding n v x ≡ true
+pub plain-ending : (n v x : ℕ) → n ≤ 6 → isPlain n v ≡ true → isEnding n v x ≡ true
 plain-ending n v x h e = ending-range n v x (omega (arith, h)) ∙ rw (ne-eqb n 7 (λ z. omega (arith, h, z)), lt-ltb n 28 (omega (arith, h)), e)
 
 -- ---- an end by its words: by 0 one that is done, by another number one that failed

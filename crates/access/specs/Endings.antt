@@ -121,9 +121,9 @@ endingIn n = endingOf (n / 256 % 256) (n / 65536 % 65536) (n / extraPlace (n / 2
 unfoldable pub isEnding : ℕ → ℕ → ℕ → Bool
 isEnding n v x = eqb (endingError (endingOf n v x)) n && (eqb (endingValue (endingOf n v x)) v && eqb (endingExtra (endingOf n v x)) x)
 
--- no word beside the number says what such an end has no use for
-abbrev pub isPlain : ℕ → ℕ → ℕ → Bool
-isPlain n v x = eqb n 0 || eqb v 0
+-- the value is one that such an end has a use for: what fails returns nothing
+abbrev pub isPlain : ℕ → ℕ → Bool
+isPlain n v = eqb n 0 || eqb v 0
 
 -- done, with nothing to return
 abbrev pub isDone : Ending → Bool

@@ -130,7 +130,7 @@ pub fn words_number(error: u8, value: u16, extra: u16) -> u64
     error as u64 * 256 + value as u64 * 65536 + extra as u64 * 281474976710656
 }
 
-// An ending as C sees it. (An error's number is not tested for 0 again: the compiler would make a branch for each.)
+// An ending as C sees it. (Branch by branch, so that the compiler inlines what makes C's number.)
 pub fn ending_number(ending: Ending) -> u64
     ensures { λ r. ⌜ r ≡ endingNumber ending ⌝ }
     ensures { λ _. ⌜ EndHoldsWords ending ⌝ }
@@ -139,7 +139,7 @@ pub fn ending_number(ending: Ending) -> u64
         Ending::Done(outcome) => words_number(0, outcome.value, outcome.second),
         Ending::Failed(failure) => {
             let error = failure.error;
-            error_number(error) as u64 * 256 + failure.flags as u64 * 281474976710656
+            words_number(error_number(error), 0, failure.flags)
         }
     }
 }
@@ -192,9 +192,9 @@ pub fn ending_in(number: u64) -> Ending
     returned_both(value, second)
 }
 
-// No word beside the number says what such an end has no use for: a call that fails returns nothing.
-pub fn is_plain(error: u8, value: u16, extra: u16) -> bool
-    ensures { λ r. ⌜ r ≡ isPlain error value extra ⌝ }
+// The value is one that such an end has a use for: a call that fails returns nothing.
+pub fn is_plain(error: u8, value: u16) -> bool
+    ensures { λ r. ⌜ r ≡ isPlain error value ⌝ }
 {
     (error == 0) | (value == 0)
 }
@@ -203,7 +203,7 @@ pub fn is_plain(error: u8, value: u16, extra: u16) -> bool
 pub fn is_ending(error: u8, value: u16, extra: u16) -> bool
     ensures { λ r. ⌜ r ≡ isEnding error value extra ⌝ }
 {
-    ((error != 7) & (error < 28)) & is_plain(error, value, extra)
+    ((error != 7) & (error < 28)) & is_plain(error, value)
 }
 
 // Whether these are the words of an end that is not known yet: done, with nothing to return.

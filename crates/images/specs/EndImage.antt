@@ -20,7 +20,7 @@ abbrev pub isEndingAt : List ℕ → Bool
 isEndingAt b = isEnding (getD b 7 0) (wordAt b 22) (wordAt b 30)
 
 abbrev pub isPlainAt : List ℕ → Bool
-isPlainAt b = isPlain (getD b 7 0) (wordAt b 22) (wordAt b 30)
+isPlainAt b = isPlain (getD b 7 0) (wordAt b 22)
 
 -- an error that a call of the block's chip can meet, as a master (`nack`) or a slave
 abbrev pub hasFailedAt : Bool → List ℕ → Bool

@@ -41,11 +41,7 @@ pub fn is_plain(block: &[u8]) -> bool
     requires { ⌜ length (now block) ≡ blockSize ⌝ }
     ensures { λ r. ⌜ r ≡ isPlainAt (now (block .entry)) ⌝ }
 {
-    ending::is_plain(
-        block[at::ERROR],
-        bytes32::word_at(block, at::VALUE),
-        bytes32::word_at(block, at::EXTRA),
-    )
+    ending::is_plain(block[at::ERROR], bytes32::word_at(block, at::VALUE))
 }
 
 // No end is known.

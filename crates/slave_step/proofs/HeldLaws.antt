@@ -80,7 +80,7 @@ module _ (chip : Chip) (a c : Bool) (k : Kind) (size count n v x : ℕ) (byte : 
   abbrev readyWith : Ending → Bool
   readyWith e = cond a (returnsIn k size count e) (cond c (hasFailed chip false e) (isDone e))
 
-  ready-ending : readyWith (endingOf n v x) ≡ true → isPlain n v x ≡ true → isEnding n v x ≡ true
+  ready-ending : readyWith (endingOf n v x) ≡ true → isPlain n v ≡ true → isEnding n v x ≡ true
   ready-ending h e = plain-ending n v x (go (eqb n 0) refl) e
     where
       go : (b : Bool) → eqb n 0 ≡ b → n ≤ 6
@@ -222,7 +222,7 @@ module _ (size a : ℕ) (b after : List ℕ) (asked : ℕ) where
         let ready : readyAt g d (stageGroup st) (stageWhat st) ≡ true = fits-ready g d st open-still (second-true (leb size 65535) (fitsAt g st d) lent) in
         true≢false (sym ready ∙ ap (λ (n : ℕ). readyAt g d n (stageWhat st)) (group-told (f .stage) (f .what) (f .phase) s) ∙ ap (λ (n : ℕ). readyAt g d (f .stage) n) (what-told (f .stage) (f .what) (f .phase) s) ∙ short))
 
-    module _ (entry count : ℕ) (call plain ready : Bool) (call-is : call ≡ eqb (f .entry) entry && isCall f) (plain-is : plain ≡ isPlain (f .error) (f .value) (f .extra)) (ready-is : ready ≡ readyAt (settingAt (chipOf (f .chip)) entry size) (slaveOf f .progress) (f .stage) (f .what)) where
+    module _ (entry count : ℕ) (call plain ready : Bool) (call-is : call ≡ eqb (f .entry) entry && isCall f) (plain-is : plain ≡ isPlain (f .error) (f .value)) (ready-is : ready ≡ readyAt (settingAt (chipOf (f .chip)) entry size) (slaveOf f .progress) (f .stage) (f .what)) where
       ready-by : eqb (f .entry) entry ≡ true → ready ≡ readyAt (settingIn (slaveOf f) size) (slaveOf f .progress) (f .stage) (f .what)
       unfolding slaveOf
       ready-by e = ready-is ∙ ap (λ (n : ℕ). readyAt (settingAt (chipOf (f .chip)) n size) (slaveOf f .progress) (f .stage) (f .what)) (sym (eqb-true (f .entry) entry e))
@@ -247,7 +247,7 @@ module _ (size a : ℕ) (b after : List ℕ) (asked : ℕ) where
           let n : eqb (f .entry) entry ≡ true = first-true (eqb (f .entry) entry) (isCall f) called in
           let c : isCall f ≡ true = second-true (eqb (f .entry) entry) (isCall f) called in
           let tests : plain && ready ≡ true = second-true call (plain && ready) test in
-          let is-plain : isPlain (f .error) (f .value) (f .extra) ≡ true = sym plain-is ∙ first-true plain ready tests in
+          let is-plain : isPlain (f .error) (f .value) ≡ true = sym plain-is ∙ first-true plain ready tests in
           let g : Setting = settingIn (slaveOf f) size in
           let d : Progress = slaveOf f .progress in
           let st : Stage = stageOf (f .stage) (f .what) (f .phase) in

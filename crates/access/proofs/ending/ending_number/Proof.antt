@@ -1,8 +1,6 @@
 -- `access::ending::ending_number` meets its contract.
 -- Assumes nothing.
 use borrow.Author.Needs.{needs}
-use native.Mathlib.Omega.{arith}
-use Rattle.access.proofs.EndingLaws.{error-place}
 use Rattle.access.proofs.ending.ending_number.Statement.{statement}
 use Rattle.access.proofs.ending.ending_number.Tie as tie
 
@@ -14,10 +12,6 @@ ending-number-spec =
     (λ c κs. search needs)
     (λ c. search needs)
     (λ c κs. search needs)
-    (λ c. search needs)
-    (λ c. search needs)
-    (λ c. search needs)
-    (λ c. search needs)
-    (λ c. search needs)
+    (λ c κs. search needs)
     (λ c. (rw (c .before .before .ending .given .1, c .words-number .ensures), rw (c .before .before .ending .given .1) (search needs, search needs)))
-    (λ c. (rw (c .before .before .before .ending2 .given .1, c .before .error-number .ensures, error-place _) (omega arith), rw (c .before .before .before .ending2 .given .1) (search needs))))
+    (λ c. (rw (c .before .before .before .ending2 .given .1, c .words-number2 .ensures, c .before .error-number .ensures), rw (c .before .before .before .ending2 .given .1) (search needs))))
