@@ -63,6 +63,26 @@ static void expect(int holds, const char *what)
     }
 }
 
+/* The same of a whole end: with the flags behind an error, which are to be `flags`. */
+static void whole_result(uint64_t end, unsigned wanted, unsigned flags)
+{
+    static const struct {
+        unsigned flag;
+        const char *name;
+    } names[] = {
+        {CH32_I2C_FLAG_ARLO, "arbitration lost"}, {CH32_I2C_FLAG_TIMEOUT, "timeout"},   {CH32_I2C_FLAG_PECERR, "PEC error"},
+        {CH32_I2C_FLAG_OVR, "overrun"},           {CH32_I2C_FLAG_AF, "no acknowledge"}, {CH32_I2C_FLAG_BERR, "bus error"},
+    };
+    size_t i;
+    result(ch32_i2c_end_of(end), wanted);
+    printf("    flags  %04x", ch32_i2c_flags_of(end));
+    for (i = 0; i < sizeof names / sizeof *names; i++)
+        if (ch32_i2c_flags_of(end) & names[i].flag)
+            printf(", %s", names[i].name);
+    printf(ch32_i2c_flags_of(end) ? "\n" : ", the status word showed no error\n");
+    expect(ch32_i2c_flags_of(end) == flags, "other flags were expected");
+}
+
 /* ---- the calls ---- */
 
 static void set_up(void)
@@ -143,7 +163,7 @@ static void missing(void)
 {
     uint8_t byte;
     call("read from 0x33, where no device is");
-    result(ch32_i2c_read(&port, 0x33, &byte, 1), CH32_I2C_NACK);
+    whole_result(ch32_i2c_read_whole(&port, 0x33, &byte, 1), CH32_I2C_NACK, CH32_I2C_FLAG_AF);
 }
 
 static void hold_scl(uint64_t time, const char *what)
@@ -151,7 +171,7 @@ static void hold_scl(uint64_t time, const char *what)
     static const uint8_t limit[3] = {3, 0x50, 0x00};
     sensor.hold_next = time;
     call(what);
-    result(ch32_i2c_write(&port, SENSOR, limit, sizeof limit), CH32_I2C_TIMEOUT);
+    whole_result(ch32_i2c_write_whole(&port, SENSOR, limit, sizeof limit), CH32_I2C_TIMEOUT, 0);
 }
 
 /* The sensor holds SCL low for longer than a call may take. The call is late, and asks STOP before it ends. The byte under way and STOP come
@@ -171,6 +191,16 @@ static void late_twice(void)
     call("write-read from the sensor: STOP is still not out, the peripheral is reset");
     result(ch32_i2c_write_read(&port, SENSOR, pointer, 1, bytes, 2), CH32_I2C_TIMEOUT);
     temperature("again: START comes when SCL is free");
+}
+
+/* One word shows two errors, and the end has the number of the first. On this chip a bus error alone is none. */
+static void line_disturbed(void)
+{
+    static const uint8_t limit[3] = {3, 0x50, 0x00};
+    sim_disturb();
+    call("write a limit to the sensor, while something pulls SDA low");
+    whole_result(ch32_i2c_write_whole(&port, SENSOR, limit, sizeof limit), CH32_I2C_ARBITRATION, CH32_I2C_FLAG_ARLO | CH32_I2C_FLAG_BERR);
+    temperature("write-read from the sensor");
 }
 
 static void fast(void)
@@ -250,6 +280,7 @@ int main(int count, char **arguments)
     missing();
     late();
     late_twice();
+    line_disturbed();
     fast();
     refused();
     gauge();

@@ -8,7 +8,7 @@
 #include <string.h>
 
 enum { PE = 1, START = 0x100, STOP = 0x200, ACK = 0x400, POS = 0x800, SWRST = 0x8000 };        /* CTLR1 */
-enum { SB = 1, ADDR = 2, BTF = 4, RXNE = 0x40, TXE = 0x80, AF = 0x400, ERRORS = 0xdf00 };      /* STAR1 */
+enum { SB = 1, ADDR = 2, BTF = 4, RXNE = 0x40, TXE = 0x80, BERR = 0x100, ARLO = 0x200, AF = 0x400, ERRORS = 0xdf00 }; /* STAR1 */
 enum { MSL = 1, BUSY = 2, TRA = 4 };                                                          /* STAR2 */
 
 /* FREE: nobody uses the bus. WAITING: it is ours, SCL is low, nothing moves. The others take time. Those of OTHER_ are another master's;
@@ -26,6 +26,7 @@ static uint8_t shift, data;
 static int shift_full, data_full; /* a received byte waits in the shift register; a byte to be sent waits in DATAR */
 static int receiving, sending, acknowledged, ack_before, status_read;
 static int scl = 1, sda = 1;
+static int disturbed; /* the next byte sent will be */
 static struct device *devices[4], *selected;
 static unsigned device_count;
 
@@ -136,6 +137,21 @@ static struct device *device_at(unsigned address)
     return NULL;
 }
 
+/* SDA was pulled low while SCL was high: to the peripheral a misplaced START, and another master that won. */
+static void lose_bus(uint64_t t)
+{
+    disturbed = sending = data_full = 0;
+    reg[CH32_I2C_STAR1] |= ARLO | BERR;
+    reg[CH32_I2C_STAR2] &= (uint16_t) ~(MSL | BUSY | TRA);
+    selected = NULL;
+    say("(SDA pulled low) ", 0);
+    lines(t, 1, 1);
+    piece = FREE;
+    piece_ended = t;
+}
+
+void sim_disturb(void) { disturbed = 1; }
+
 /* The eight bits are out, at time t: the ninth. */
 static void acknowledge(uint64_t t)
 {
@@ -145,6 +161,9 @@ static void acknowledge(uint64_t t)
         acknowledged = selected && selected->start(selected, shift & 1, t);
         say(shift & 1 ? "[%02x+R] " : "[%02x+W] ", shift >> 1);
         take(ADDRESS_ACK, t, 1);
+    } else if (piece == SENDING_BITS && disturbed) {
+        lose_bus(t);
+        return;
     } else if (piece == SENDING_BITS) {
         acknowledged = selected->write(selected, shift, t + bit_time());
         say("%02x ", shift);

@@ -58,6 +58,9 @@ void sim_wait(uint64_t time);
 /* Another master begins to read so many bytes from a slave with this address, and refuses the last. */
 void sim_other_master_reads(unsigned address, unsigned count);
 
+/* Something pulls SDA low in the next byte sent. */
+void sim_disturb(void);
+
 /* What happened on the wire since this was last asked: START, [address+direction], ACK or NACK, bytes, STOP; notes in brackets ( ). */
 const char *sim_wire(void);
 

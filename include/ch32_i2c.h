@@ -92,6 +92,17 @@ enum ch32_i2c_end {
     CH32_I2C_RESERVED_ADDRESS = 17     /* own or second address that UM10204 reserves: 0x01 to 0x07, 0x78 to 0x7f; or a second address 0 */
 };
 
+/* The error flags of STAR1 (ch32_i2c_flags_of). */
+enum ch32_i2c_flag {
+    CH32_I2C_FLAG_BERR = 0x0100,    /* misplaced START or STOP: CH32_I2C_BUS with ch32v4, else no error */
+    CH32_I2C_FLAG_ARLO = 0x0200,    /* arbitration lost: CH32_I2C_ARBITRATION */
+    CH32_I2C_FLAG_AF = 0x0400,      /* no acknowledge: CH32_I2C_NACK of a master; to a slave no error */
+    CH32_I2C_FLAG_OVR = 0x0800,     /* overrun or underrun: CH32_I2C_OVERRUN */
+    CH32_I2C_FLAG_PECERR = 0x1000,  /* wrong PEC: CH32_I2C_CRC */
+    CH32_I2C_FLAG_TIMEOUT = 0x4000, /* the peripheral's own timeout: CH32_I2C_TIMEOUT with i2c_v3, else no error */
+    CH32_I2C_FLAGS = 0x5f00         /* all of them */
+};
+
 /* The chip: two properties, free of each other. i2c_v3: there is RTR, and TIMEOUT is an error. ch32v4: BERR is an error, and the input
  * clock is set as at most 60 MHz. */
 enum ch32_i2c_chip {
@@ -159,6 +170,13 @@ static inline unsigned ch32_i2c_left_over_of(uint64_t next) { return (unsigned)(
 /* At the end of respond_to_read, with 0: how many bytes the master did not take, that one included. Reload a queue from this count. 0 at
  * every other end, and at an access. */
 static inline unsigned ch32_i2c_not_taken_of(uint64_t next) { return ch32_i2c_is_done(next) ? (unsigned)(next >> 32 & 0xffffu) : 0u; }
+
+/* At an error that the status word showed: all of enum ch32_i2c_flag that were set in that word and were cleared, the one that decided among
+ * them. 0 at every other end (a late clock, START that was not ours, a refusal, 0), and at an access. */
+static inline unsigned ch32_i2c_flags_of(uint64_t next)
+{
+    return ch32_i2c_kind_of(next) == CH32_I2C_KIND_END && ch32_i2c_end_of(next) != CH32_I2C_DONE ? (unsigned)(next >> 48) : 0u;
+}
 
 /* At the end of listen, with 0: one of enum ch32_i2c_command, the address that was matched, and whether it has ten bits. */
 static inline unsigned ch32_i2c_command_of(uint64_t next) { return (unsigned)(next >> 28 & 3u); }

@@ -11,7 +11,9 @@
  *
  *     const uint64_t end = ch32_i2c_respond_to_read_whole(&port, data, n);
  *     if (ch32_i2c_end_of(end) == CH32_I2C_DONE)
- *         requeue(data + n - ch32_i2c_not_taken_of(end), ch32_i2c_not_taken_of(end)); */
+ *         requeue(data + n - ch32_i2c_not_taken_of(end), ch32_i2c_not_taken_of(end));
+ *     else
+ *         report(ch32_i2c_end_of(end), ch32_i2c_flags_of(end)); */
 #ifndef CH32_I2C_BLOCKING_H
 #define CH32_I2C_BLOCKING_H
 

@@ -95,14 +95,14 @@ static uint64_t step(const struct call *c, uint16_t answer)
     }
 }
 
-/* The access or end of a code and its word; at an end its second count. */
-static uint64_t expected(unsigned code, const uint8_t **at, uint16_t *answer, uint16_t *second)
+/* The access or end of a code and its word; at an end what stands beside it. */
+static uint64_t expected(unsigned code, const uint8_t **at, uint16_t *answer, uint16_t *extra)
 {
     const uint64_t access = (code >> 4 & 3) | (uint64_t)(code & 15) << 8;
     if (code == 0) {
         const uint64_t end = (uint64_t)number(at, 1) << 8;
         const uint64_t value = (uint64_t)number(at, 2) << 16;
-        *second = (uint16_t)number(at, 2);
+        *extra = (uint16_t)number(at, 2);
         return end | value;
     }
     if (code & 0x40)
@@ -118,6 +118,9 @@ static uint64_t end_as_the_rust(const struct call *c, uint64_t end)
     return c->entry == 0 || c->entry == 5 ? end : as_the_rust((uint8_t)c->chip, c->entry < 5, end);
 }
 
+/* What stands beside an end: the second count at 0, the flags at an error. */
+static uint16_t extra_of(uint64_t end) { return (uint16_t)((end & 0xffff) == 0 ? end >> 32 & 0xffff : end >> 48); }
+
 /* One call. Returns whether all is as stored. */
 static int replay(const uint8_t *at)
 {
@@ -130,9 +133,9 @@ static int replay(const uint8_t *at)
     uint64_t next = begin(&c);
     for (int first = 1;; first = 0) {
         const unsigned code = number(&at, 1);
-        uint16_t answer = 0, second = 0;
-        const uint64_t wanted = expected(code, &at, &answer, &second);
-        if ((code == 0 ? end_as_the_rust(&c, next) : next) != wanted || (next >> 32 & 0xffff) != second)
+        uint16_t answer = 0, extra = 0;
+        const uint64_t wanted = expected(code, &at, &answer, &extra);
+        if (code == 0 ? end_as_the_rust(&c, next) != wanted || extra_of(next) != extra : next != wanted)
             return 0;
         if (code == 0 && first && wanted != 0 && memcmp(block, block_before, sizeof block) != 0)
             return 0;
@@ -153,7 +156,7 @@ int main(int argc, char **argv)
     FILE *file = argc == 2 ? fopen(argv[1], "rb") : NULL;
     static uint8_t sample[4 << 20];
     const size_t length = file ? fread(sample, 1, sizeof sample, file) : 0;
-    if (length < 12 || memcmp(sample, "ch32i2c2", 8) != 0) {
+    if (length < 12 || memcmp(sample, "ch32i2c3", 8) != 0) {
         puts("replay SAMPLE");
         return 2;
     }

@@ -17,6 +17,10 @@ uint64_t __real_ch32_i2c_is_critical(const uint8_t *, size_t);
 
 #define REFUSED_STEP ((uint64_t)15 << 8)
 
+/* An end with an error from 1 to 6, and one that has flags. */
+#define IS_ERROR(next) (((next) & 0xff) == 0 && (next) >> 8 != 0 && ((next) >> 8 & 0xff) < 7)
+#define HAS_FLAGS(next) (IS_ERROR(next) && (next) >> 48 != 0)
+
 uint64_t __wrap_ch32_i2c_init_begin(uint8_t *block, size_t n, uint8_t chip, uint32_t input, uint32_t frequency, uint8_t duty)
 {
 #ifdef FAULT_block_of_33_accepted
@@ -80,6 +84,15 @@ uint64_t __wrap_ch32_i2c_write_step(uint8_t *block, size_t n, const uint8_t *wri
     if ((next & 0xff) == 0 && length > 0)
         ((uint8_t *)written)[length - 1] ^= 1;
 #endif
+#ifdef FAULT_only_the_deciding_flag
+    static const uint16_t deciding[7] = {0, 0x0100, 0x0200, 0x0400, 0x4000, 0x1000, 0x0800};
+    if (HAS_FLAGS(next))
+        next &= (uint64_t)deciding[next >> 8 & 0xff] << 48 | 0xffffffffffff;
+#endif
+#ifdef FAULT_flags_at_a_late_clock
+    if (next == (uint64_t)4 << 8)
+        next |= (uint64_t)0x4000 << 48;
+#endif
 #ifdef FAULT_answer_after_a_write_used
     static uint64_t last;
     if ((last & 0xff) == 2 && answer == 0xffff)
@@ -92,6 +105,17 @@ uint64_t __wrap_ch32_i2c_write_step(uint8_t *block, size_t n, const uint8_t *wri
 uint64_t __wrap_ch32_i2c_read_step(uint8_t *block, size_t n, uint8_t *read, size_t length, uint16_t answer)
 {
     uint64_t next = __real_ch32_i2c_read_step(block, n, read, length, answer);
+#ifdef FAULT_flags_of_the_word_before
+    static uint64_t last;
+    static uint16_t status, status_before;
+    if ((last & 0xffff) == 0x0501) {
+        status_before = status;
+        status = answer;
+    }
+    last = next;
+    if (HAS_FLAGS(next))
+        next = (next & 0xffffffffffff) | (uint64_t)(status_before & 0x5f00) << 48;
+#endif
 #ifdef FAULT_byte_left_alone_cleared
     if ((next & 0xff) == 0 && (next >> 8) != 0 && (next >> 8) < 15 && length > 0)
         read[length - 1] = 0;
@@ -115,6 +139,10 @@ uint64_t __wrap_ch32_i2c_transaction_step(uint8_t *block, size_t n, const uint8_
     if (next == 0 && list_length > 6)
         ((uint8_t *)list)[list_length - 1] ^= 1;
 #endif
+#ifdef FAULT_flags_by_payload
+    if (HAS_FLAGS(next) && written_length > 0)
+        next ^= (uint64_t)(written[0] & 1) << 56;
+#endif
 #ifdef FAULT_arrived_byte_overwritten
     if ((next & 0xff) == 0 && read_length > 2)
         read[0] = read[1];
@@ -125,6 +153,10 @@ uint64_t __wrap_ch32_i2c_transaction_step(uint8_t *block, size_t n, const uint8_
 uint64_t __wrap_ch32_i2c_listen_step(uint8_t *block, size_t n, uint16_t answer)
 {
     uint64_t next = __real_ch32_i2c_listen_step(block, n, answer);
+#ifdef FAULT_af_not_among_a_slaves_flags
+    if (HAS_FLAGS(next))
+        next &= ~((uint64_t)0x0400 << 48);
+#endif
 #ifdef FAULT_step_of_another_entry_accepted
     if (next == REFUSED_STEP)
         next = ch32_i2c_init_step(block, n, answer);
@@ -135,6 +167,10 @@ uint64_t __wrap_ch32_i2c_listen_step(uint8_t *block, size_t n, uint16_t answer)
 uint64_t __wrap_ch32_i2c_respond_to_write_step(uint8_t *block, size_t n, uint8_t *buffer, size_t length, uint16_t answer)
 {
     uint64_t next = __real_ch32_i2c_respond_to_write_step(block, n, buffer, length, answer);
+#ifdef FAULT_flags_lost_in_the_abort
+    if (HAS_FLAGS(next))
+        next &= 0xffffffffffff;
+#endif
 #ifdef FAULT_second_count_of_a_receive
     if ((next & 0xffff) == 0)
         next |= next >> 16 << 32;

@@ -72,7 +72,8 @@ pub fn input_of(call: &Call, answers: &[u16]) -> Option<String> {
     (input.len() <= 65_536).then_some(input)
 }
 
-/// The bench program's output with its end as the Rust's: the line `end,NUMBER,..` goes through `ends`.
+/// The bench program's output with its end as the Rust's: the line `end,NUMBER,USED,FLAGS` goes through `ends`. The flags stay,
+/// and are compared with those of the words that the Rust was fed.
 pub fn as_the_rust(input: &str, output: &str) -> Option<String> {
     let chip = input.strip_prefix("T,")?.split(',').next()?.parse().ok()?;
     let (start, last) = output.split_at(output.rfind("end,")?);
@@ -80,6 +81,7 @@ pub fn as_the_rust(input: &str, output: &str) -> Option<String> {
     let Ok(number) = number.parse::<u64>() else {
         return Some(output.into());
     };
-    let end = ends::of_transfer(chip, number << 8);
+    let (_, flags) = rest.trim_end().split_once(',')?;
+    let end = ends::of_transfer(chip, number << 8 | u64::from(hex_number(flags)?) << 48);
     Some(format!("{start}end,{},{rest}", end >> 8 & 0xff))
 }

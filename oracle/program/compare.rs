@@ -16,7 +16,8 @@ use std::time::Instant;
 
 use oracle::generate::{Generator, Sizes};
 use oracle::random::Random;
-use oracle::second::Compared;
+use oracle::flags;
+use oracle::second;
 use oracle::{rust, sample_file, text};
 use record::{Call, Entry, Given, Record, ENTRIES};
 use rust::Outcome;
@@ -52,6 +53,37 @@ impl Tally {
     }
 }
 
+/// What was compared that the Rust does not have: second counts and flags.
+#[derive(Default)]
+struct Beside {
+    seconds: second::Compared,
+    flags: flags::Compared,
+}
+
+impl Beside {
+    fn add(&mut self, call: &Call, outcome: &Outcome) {
+        self.seconds.add(call, &outcome.record, outcome.end);
+        self.flags.add(call, outcome.flags, outcome.end, outcome.is_refused());
+    }
+
+    /// Where there are many calls, none of the cases may be missing.
+    fn check(&self) {
+        let (seconds, flags) = (&self.seconds, &self.flags);
+        for (count, text, is_whole) in [
+            (seconds.replies, seconds.text(), seconds.is_whole()),
+            (flags.errors(), flags.text(), flags.is_whole()),
+        ] {
+            if count > 0 {
+                println!("{text}");
+            }
+            if count >= 10_000 && !is_whole {
+                println!("a case was not met");
+                exit(1);
+            }
+        }
+    }
+}
+
 fn report(call: &Call, outcome: &Outcome, difference: &str) {
     println!("DIFFERENCE: {difference}");
     println!("input: {}", text::call_line(call, &outcome.record.answers));
@@ -74,14 +106,7 @@ fn made_call(seed: u64, entry: Entry, chip: u8, number: u64, record: Record) -> 
 }
 
 /// Compares the calls of one entry on one chip. `Err` holds the number of calls up to the first difference.
-fn compare(
-    seed: u64,
-    calls: u64,
-    entry: Entry,
-    chip: u8,
-    player: &mut Player,
-    seconds: &mut Compared,
-) -> Result<Tally, u64> {
+fn compare(seed: u64, calls: u64, entry: Entry, chip: u8, player: &mut Player, beside: &mut Beside) -> Result<Tally, u64> {
     let mut tally = Tally::default();
     let mut record = Record::default();
     for number in 0..calls {
@@ -92,7 +117,7 @@ fn compare(
             println!("again: compare replay {seed} {} {chip} {number}", entry.name());
             return Err(number + 1);
         }
-        seconds.add(&call, &outcome.record, outcome.end);
+        beside.add(&call, &outcome);
         record = outcome.record;
     }
     Ok(tally)
@@ -101,12 +126,12 @@ fn compare(
 fn compare_all(seed: u64, calls: u64, entries: &[Entry], chips: &[u8]) {
     let mut player = Player::default();
     let mut total = Tally::default();
-    let mut seconds = Compared::default();
+    let mut beside = Beside::default();
     let began = Instant::now();
     let mut done = 0;
     for entry in entries {
         for chip in chips {
-            match compare(seed, calls, *entry, *chip, &mut player, &mut seconds) {
+            match compare(seed, calls, *entry, *chip, &mut player, &mut beside) {
                 Ok(tally) => {
                     println!(
                         "{:16} chip {chip}: {} calls, {} accesses, 0 differences; ends {}",
@@ -131,7 +156,7 @@ fn compare_all(seed: u64, calls: u64, entries: &[Entry], chips: &[u8]) {
             done += calls;
         }
     }
-    check_seconds(&seconds);
+    beside.check();
     println!(
         "{} calls, {} accesses, {} refused steps tried, 0 differences, {:.1} s",
         total.calls,
@@ -139,17 +164,6 @@ fn compare_all(seed: u64, calls: u64, entries: &[Entry], chips: &[u8]) {
         player.refused_steps,
         began.elapsed().as_secs_f64()
     );
-}
-
-/// Where there are many replies, none of the cases of the second count may be missing.
-fn check_seconds(seconds: &Compared) {
-    if seconds.replies > 0 {
-        println!("{}", seconds.text());
-    }
-    if seconds.replies >= 10_000 && !seconds.is_whole() {
-        println!("a case of the second count was not met");
-        exit(1);
-    }
 }
 
 /// All entries and chips by turns, up to the first difference.

@@ -1,5 +1,5 @@
-//! Calls that belong in the sample whatever chance brings: document 01's edges, its traps, document 02's second count, and
-//! boundary lengths.
+//! Calls that belong in the sample whatever chance brings: document 01's edges, its traps, document 02's second count and flags,
+//! and boundary lengths.
 
 use record::{Answers, Call, Entry, Given};
 
@@ -25,6 +25,7 @@ pub fn all(random: &mut Random) -> Vec<WithAnswers> {
         edges.status_words(chip);
         edges.traps(chip);
         edges.second_counts(chip);
+        edges.flags(chip);
         edges.refused(chip);
         edges.boundary_lengths(chip);
     }
@@ -191,6 +192,27 @@ impl Edges<'_> {
                     self.given(call, &answers);
                 }
             }
+        }
+    }
+
+    /// Flags beside the one that decides, and flags that decide nothing before a late clock or a lost START.
+    fn flags(&mut self, chip: u8) {
+        for status in [0x5f00, 0x0300, 0x4100, 0x0500, 0x0d00, 0x1c00] {
+            let mut call = on_chip(Entry::Write, chip);
+            (call.address, call.option, call.written) = (0x50, 3, vec![0; 1]);
+            self.given(call, &[status, 0x1f24, 0x0600, 0x0600, 0x0600, 0x0600, 0x0600]);
+            let mut call = on_chip(Entry::RespondToWrite, chip);
+            call.read = vec![0; 1];
+            self.given(call, &[status, 0x1f24, 0x0600, 0x0600, 0x0600]);
+        }
+        for status in [0x0100, 0x4100, 0x0400] {
+            let mut call = on_chip(Entry::Write, chip);
+            (call.address, call.written) = (0x50, vec![0; 1]);
+            self.given(call.clone(), &[0, 0, 0, 0, status, 1, 0x1f24, 0, 0, 0, 0]);
+            self.given(call, &[0, 0, 0, 0, status | 1, 0x100, 0x1f24, 0, 0, 0, 0]);
+            let mut call = on_chip(Entry::RespondToWrite, chip);
+            call.read = vec![0; 1];
+            self.given(call, &[status, 1, 0x1f24, 2, 0]);
         }
     }
 

@@ -7,6 +7,7 @@ pub mod coverage;
 pub mod document;
 pub mod edges;
 pub mod ends;
+pub mod flags;
 pub mod generate;
 pub mod random;
 pub mod rust;

@@ -155,7 +155,7 @@ fn check_sample(path: &str) {
         });
         let again = rust::run(&sampled.call, Record::default(), answers, false);
         let same_record = again.record.accesses == stored.record.accesses && again.read == stored.read;
-        if !(same_record && again.end == stored.end && again.second == stored.second) {
+        if !(same_record && again.end == stored.end && again.extra() == stored.extra()) {
             println!(
                 "call {number} differs: {}",
                 text::call_line(&sampled.call, &stored.record.answers)

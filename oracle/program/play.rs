@@ -1,6 +1,7 @@
 //! Plays a call to the C library with the Rust's answers, and compares everything that can be seen.
 
 use oracle::ends;
+use oracle::flags;
 use oracle::random::Random;
 use oracle::rust::{end_number, Outcome};
 use oracle::second;
@@ -92,9 +93,15 @@ impl Player {
             let closing = second::closing(call, &outcome.record, outcome.end);
             let is_kept = closing.is_none_or(|closing| closing.is_of_the_rust(call.written.len(), end));
             check(is_kept, || "the Rust's count is not of the bytes that were sent".into())?;
-            let second = last >> 32 & 0xffff;
+            check(flags::are_of_the_rust(call, &outcome.record, end), || {
+                format!("the flags {:04x} do not decide the Rust's end", outcome.flags)
+            })?;
+            let (second, flags) = (last >> 32 & 0xffff, last >> 48);
             check(second == outcome.second as u64, || {
                 format!("the second count: {} by the words that the Rust was fed, the C library {second}", outcome.second)
+            })?;
+            check(flags == outcome.flags as u64, || {
+                format!("the flags: {:04x} by the words that the Rust was fed, the C library {flags:04x}", outcome.flags)
             })?;
             let last = ends::of_call(call, last);
             check(last == end as u64, || differs("the end", end as u64, last))?;

@@ -6,7 +6,7 @@ use std::sync::OnceLock;
 
 use record::{Answers, Call, Entry, OutOfAnswers, Record};
 
-use crate::{causes, second};
+use crate::{causes, flags, second};
 
 /// The carried Rust, built for each chip.
 pub type Chips = [fn(&Call, &mut [u8]) -> (u8, u16); 4];
@@ -19,12 +19,13 @@ pub fn use_chips(chips: Chips) {
     std::panic::set_hook(Box::new(|_| {}))
 }
 
-/// What a call comes to: its record, its end as the C library's number (none for an open call), the second count beside
-/// it and the read bytes.
+/// What a call comes to: its record, its end as the C library's number (none for an open call), the second count and the
+/// flags beside it and the read bytes.
 pub struct Outcome {
     pub record: Record,
     pub end: Option<u32>,
     pub second: u16,
+    pub flags: u16,
     pub read: Vec<u8>,
     pub panic: Option<String>,
 }
@@ -34,6 +35,15 @@ pub const fn end_number(end: u8, value: u16) -> u32 {
 }
 
 impl Outcome {
+    /// What stands beside the end: the second count at an end with 0, the flags at an error.
+    pub fn extra(&self) -> u16 {
+        if self.end.is_some_and(|end| end >> 8 & 0xff == 0) {
+            self.second
+        } else {
+            self.flags
+        }
+    }
+
     /// Refused before any access: nothing may have changed.
     pub fn is_refused(&self) -> bool {
         self.record.accesses.is_empty() && !matches!(self.end, Some(0) | None)
@@ -65,6 +75,7 @@ pub fn run_rust(call: &Call, record: Record, answers: Box<dyn Answers>, with_pla
     };
     Outcome {
         second: second::of_end(call, &record, end),
+        flags: flags::of_end(call, &record, end),
         record,
         end,
         read,
@@ -95,6 +106,7 @@ pub fn run(call: &Call, mut record: Record, answers: Box<dyn Answers>, with_plac
             record,
             end: Some(end_number(cause, 0)),
             second: 0,
+            flags: 0,
             read: call.read.clone(),
             panic: None,
         };

@@ -79,6 +79,7 @@ fn ways(call: &Call, outcome: &Outcome) -> Vec<u64> {
         before = here;
     }
     features.push(feature((who, "last", before, end)));
+    features.push(feature((who, "told", outcome.flags, end)));
     if let Some(closing) = second::closing(call, record, outcome.end) {
         features.push(feature((who, "closing", closing.class(call.written.len()))));
     }

@@ -5,7 +5,7 @@ use record::{kind, register, value, Call, Record, CLOCK, ENTRIES, READ, WRITE};
 use crate::rust::Outcome;
 use crate::text::arrived;
 
-pub const MAGIC: &[u8; 8] = b"ch32i2c2";
+pub const MAGIC: &[u8; 8] = b"ch32i2c3";
 
 /// Byte `place` of lent bytes with this seed.
 pub fn rule(seed: u8, place: usize) -> u8 {
@@ -73,7 +73,7 @@ pub fn encode(sampled: &Sampled, outcome: &Outcome) -> Vec<u8> {
     if let Some(end) = outcome.end {
         bytes.extend([0, (end >> 8) as u8]);
         bytes.extend((value(end) as u16).to_le_bytes());
-        bytes.extend(outcome.second.to_le_bytes());
+        bytes.extend(outcome.extra().to_le_bytes());
     }
     let arrived = arrived(outcome);
     bytes.extend((arrived as u16).to_le_bytes());
@@ -123,7 +123,7 @@ fn get_call(bytes: &mut Cursor<'_>) -> Sampled {
     Sampled::new(call, written_seed, read_seed)
 }
 
-/// The record up to its end, and the end with its second count; `None` for an open call.
+/// The record up to its end, and the end with what stands beside it; `None` for an open call.
 fn get_record(bytes: &mut Cursor<'_>) -> (Record, Option<u32>, u16) {
     let mut record = Record::default();
     loop {
@@ -154,7 +154,9 @@ fn decode_one(bytes: &mut Cursor<'_>) -> (Sampled, Outcome) {
     let length = bytes.number(4) as usize;
     let mut one = Cursor(bytes.take(length - 4));
     let sampled = get_call(&mut one);
-    let (record, end, second) = get_record(&mut one);
+    let (record, end, extra) = get_record(&mut one);
+    let is_done = end.is_some_and(|end| end >> 8 & 0xff == 0);
+    let (second, flags) = if is_done { (extra, 0) } else { (0, extra) };
     let arrived = one.number(2) as usize;
     let mut read = sampled.call.read.clone();
     read[..arrived].copy_from_slice(one.take(arrived));
@@ -163,6 +165,7 @@ fn decode_one(bytes: &mut Cursor<'_>) -> (Sampled, Outcome) {
         record,
         end,
         second,
+        flags,
         read,
         panic: None,
     };

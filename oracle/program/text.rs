@@ -111,10 +111,11 @@ pub fn access_line(access: u32, answer: Option<u16>) -> String {
 pub fn number_text(number: u64) -> String {
     match number & 0xff {
         0 => format!(
-            "end {} value {:04x} second {:04x}",
+            "end {} value {:04x} second {:04x} flags {:04x}",
             number >> 8 & 0xff,
             number >> 16 & 0xffff,
-            number >> 32
+            number >> 32 & 0xffff,
+            number >> 48
         ),
         1..=3 if number >> 8 & 0xff < 9 && number >> 32 == 0 => access_line(number as u32, None),
         _ => format!("no such number {number:016x}"),
@@ -155,7 +156,7 @@ pub fn record_text(outcome: &Outcome) -> String {
         (None, Some(end)) => format!("{}", end >> 8 & 0xff),
     };
     let value = outcome.end.map_or(0, value);
-    write!(text, "end,{end},{}", record.answers.len()).unwrap();
+    write!(text, "end,{end},{},{:04x}", record.answers.len(), outcome.flags).unwrap();
     if value != 0 {
         write!(text, ",value {value:04x}").unwrap();
     }

@@ -145,11 +145,13 @@ uint16_t some_answer(const struct call *c, uint64_t next)
 int well_formed(enum entry entry, uint64_t next)
 {
     unsigned kind = ch32_i2c_kind_of(next), number = ch32_i2c_register_of(next);
-    if (next >> (entry == RESPOND_TO_READ && ch32_i2c_is_done(next) ? 48 : 32))
+    if (kind == CH32_I2C_KIND_END && number != 0)
+        return number <= 6 && (next & 0xffffffff0000) == 0 && (ch32_i2c_flags_of(next) & ~(unsigned)CH32_I2C_FLAGS) == 0;
+    if (next >> (entry == RESPOND_TO_READ && kind == CH32_I2C_KIND_END ? 48 : 32))
         return 0;
     switch (kind) {
     case CH32_I2C_KIND_END:
-        return number <= 6 && (number == 0 || next >> 16 == 0);
+        return 1;
     case CH32_I2C_KIND_READ:
         return number <= CH32_I2C_RTR && next >> 16 == 0;
     case CH32_I2C_KIND_WRITE:
@@ -200,7 +202,8 @@ void follow(struct call *c, const char *name, const char *lines)
             expected = CH32_I2C_KIND_CLOCK;
             break;
         default:
-            expected = ending((unsigned)strtoul(field, NULL, 10)) | (uint64_t)value << 16;
+            expected = ending((unsigned)strtoul(field, NULL, 10));
+            expected |= (uint64_t)value << (expected == 0 ? 16 : 48);
         }
         if (!check(next == expected, "%s, line %u: %.*s; got %#llx", name, number, (int)(stop - lines), lines, (unsigned long long)next))
             return;

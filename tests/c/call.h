@@ -46,7 +46,7 @@ uint16_t some_answer(const struct call *c, uint64_t next);
 uint32_t chance(uint32_t below);
 
 /* Whether a number is one that a step of this entry may return before a 15: one access, or an end from 0 to 6. A reply alone returns two
- * numbers. */
+ * numbers, and an error alone has flags. */
 int well_formed(enum entry entry, uint64_t next);
 
 uint64_t ending(unsigned number);
@@ -55,7 +55,7 @@ uint64_t ending(unsigned number);
 int check(int holds, const char *format, ...);
 
 /* Carries the call along lines in the format of the bench program: `r,CTLR1,0001`, `w,DATAR,0042`, `c,clock,0000`, `end,3`. Behind the
- * end's number may stand what is returned, in hex: of a reply both counts, the second in front. */
+ * end's number may stand what is returned, in hex: of a reply both counts, the second in front; of an error its flags. */
 void follow(struct call *c, const char *name, const char *lines);
 
 void test_header(void);
@@ -67,6 +67,7 @@ void test_refusal_order(void);
 void test_limits(void);
 void test_own_addresses(void);
 void test_left_over(void);
+void test_flags(void);
 void test_null(void);
 void test_block_lengths(void);
 void test_lent_at_steps(void);

@@ -15,13 +15,13 @@ static const struct {
     unsigned stage_byte, first_unknown_stage;
 } layout[9] = {
     {0xcff0ffb4u, 3, 13}, /* init */
-    {0xffc00a04u, 3, 11}, /* transaction */
-    {0xffc00a04u, 3, 11}, /* write_read */
-    {0xffc00e00u, 3, 11}, /* write */
-    {0xffc00e00u, 3, 11}, /* read */
+    {0x3fc00a04u, 3, 11}, /* transaction */
+    {0x3fc00a04u, 3, 11}, /* write_read */
+    {0x3fc00e00u, 3, 11}, /* write */
+    {0x3fc00e00u, 3, 11}, /* read */
     {0xeffcfcb6u, 3, 9}, /* init_slave */
-    {0xff3cff44u, 3, 11}, /* listen */
-    {0xfc3cff44u, 3, 11}, /* respond_to_write */
+    {0x3f3cff44u, 3, 11}, /* listen */
+    {0x3c3cff44u, 3, 11}, /* respond_to_write */
     {0x383cff44u, 3, 11}, /* respond_to_read */
 };
 

@@ -21,6 +21,14 @@ void test_header(void)
           "a write taken apart");
     check(ch32_i2c_end_of(0x0300) == CH32_I2C_NACK && !ch32_i2c_is_done(0x0300) && !ch32_i2c_is_done(1), "an end taken apart");
     check(ch32_i2c_not_taken_of(0xffff00070000) == 65535 && ch32_i2c_left_over_of(0xffff00070000) == 7, "the second count");
+    check(CH32_I2C_FLAGS == (CH32_I2C_FLAG_BERR | CH32_I2C_FLAG_ARLO | CH32_I2C_FLAG_AF | CH32_I2C_FLAG_OVR | CH32_I2C_FLAG_PECERR |
+                             CH32_I2C_FLAG_TIMEOUT) &&
+              CH32_I2C_FLAG_BERR == 1 << 8 && CH32_I2C_FLAG_ARLO == 1 << 9 && CH32_I2C_FLAG_AF == 1 << 10 &&
+              CH32_I2C_FLAG_OVR == 1 << 11 && CH32_I2C_FLAG_PECERR == 1 << 12 && CH32_I2C_FLAG_TIMEOUT == 1 << 14,
+          "flags");
+    check(ch32_i2c_flags_of(0x0600000000000200) == 0x0600 && ch32_i2c_flags_of(0x5f00ffffffff0600) == 0x5f00, "the flags of an error");
+    check(ch32_i2c_flags_of(0x0600000000000000) == 0 && ch32_i2c_flags_of(0x0600000000000502) == 0 && ch32_i2c_flags_of(0x0400) == 0,
+          "no flags at 0, at an access or at a late clock");
     check(ch32_i2c_not_taken_of(0x000300000300) == 0 && ch32_i2c_not_taken_of(0x000300000502) == 0, "no second count at an error or an access");
     check(ch32_i2c_is_done(0xffff0000) && ch32_i2c_stored_of(0xffff0000) == 65535 && ch32_i2c_left_over_of(0x00070000) == 7, "counts");
     check(ch32_i2c_command_of(command) == CH32_I2C_COMMAND_READ && ch32_i2c_command_address_of(command) == 0x2a5 &&
@@ -60,7 +68,7 @@ static void bench_example(void)
                                 "r,STAR2,0003\n"
                                 "r,CTLR1,0001\n"
                                 "w,CTLR1,0201\n"
-                                "end,3";
+                                "end,3,0400";
     plain_call(&c, TRANSACTION);
     c.chip = 0;
     c.list_length = c.written_length = c.read_length = 0;
@@ -120,17 +128,17 @@ static void writes(void)
     c.chip = CH32_I2C_CHIP_PLAIN;
     follow(&c, "write, BERR and TIMEOUT do not decide on this chip",
            "r,CTLR1,0001\nr,CTLR1,0001\nr,STAR1,0001\nr,STAR1,4101\nw,STAR1,beff\nr,CTLR1,0001\nr,STAR2,0003\nw,DATAR,0042\n"
-           "r,STAR1,4102\nw,STAR1,beff\nr,STAR2,0003\n" BYTE("0031") "r,STAR1,0600\nw,STAR1,f9ff\n" ABORT_STOP "end,2");
+           "r,STAR1,4102\nw,STAR1,beff\nr,STAR2,0003\n" BYTE("0031") "r,STAR1,0600\nw,STAR1,f9ff\n" ABORT_STOP "end,2,0600");
     plain_call(&c, WRITE);
-    follow(&c, "write, TIMEOUT before BERR", WRITE_TO("0042") "r,STAR1,4180\nw,STAR1,beff\n" ABORT_STOP "end,4");
+    follow(&c, "write, TIMEOUT before BERR", WRITE_TO("0042") "r,STAR1,4180\nw,STAR1,beff\n" ABORT_STOP "end,4,4100");
     plain_call(&c, WRITE);
-    follow(&c, "write, BERR", WRITE_TO("0042") "r,STAR1,0180\nw,STAR1,feff\n" ABORT_STOP "end,1");
+    follow(&c, "write, BERR", WRITE_TO("0042") "r,STAR1,0180\nw,STAR1,feff\n" ABORT_STOP "end,1,0100");
     plain_call(&c, WRITE);
-    follow(&c, "write, PECERR before OVR", WRITE_TO("0042") "r,STAR1,1f80\nw,STAR1,e0ff\n" ABORT_STOP "end,2");
+    follow(&c, "write, PECERR before OVR", WRITE_TO("0042") "r,STAR1,1f80\nw,STAR1,e0ff\n" ABORT_STOP "end,2,1f00");
     plain_call(&c, WRITE);
-    follow(&c, "write, PECERR", WRITE_TO("0042") "r,STAR1,1c80\nw,STAR1,e3ff\n" ABORT_STOP "end,5");
+    follow(&c, "write, PECERR", WRITE_TO("0042") "r,STAR1,1c80\nw,STAR1,e3ff\n" ABORT_STOP "end,5,1c00");
     plain_call(&c, WRITE);
-    follow(&c, "write, OVR before AF", WRITE_TO("0042") "r,STAR1,0c80\nw,STAR1,f3ff\n" ABORT_STOP "end,6");
+    follow(&c, "write, OVR before AF", WRITE_TO("0042") "r,STAR1,0c80\nw,STAR1,f3ff\n" ABORT_STOP "end,6,0c00");
 }
 
 /* What a read of this length leaves behind its arrived bytes. */
@@ -188,7 +196,7 @@ static void reads(void)
     read_call("read 2, last frame without STOP", CH32_I2C_LAST_FRAME_NO_STOP, 2, POS_ON BTF LAST_START "r,DATAR,0001\nr,DATAR,0002\nend,0",
               "\x01\x02", 2);
     read_call("read 5, Nack after two bytes", 0, 5,
-              POS_OFF READ_FROM("0043") "r,STAR2,0003\n" RECEIVE("0011") RECEIVE("0022") "r,STAR1,0400\nw,STAR1,fbff\n" ABORT_STOP "end,3",
+              POS_OFF READ_FROM("0043") "r,STAR2,0003\n" RECEIVE("0011") RECEIVE("0022") "r,STAR1,0400\nw,STAR1,fbff\n" ABORT_STOP "end,3,0400",
               "\x11\x22", 2);
 }
 
@@ -260,7 +268,7 @@ static void slaves(void)
            "r,STAR1,0010\nr,CTLR1,0401\nw,CTLR1,0401\nr,STAR1,bfff\nw,STAR1,e0ff\nr,CTLR2,0408\nw,CTLR2,0008\nr,CTLR1,0001\n"
            "w,CTLR1,0401\nr,STAR1,0400\nw,STAR1,fbff\nc,clock,0001\n" SLAVE_ABORT "end,4");
     plain_call(&c, LISTEN);
-    follow(&c, "listen, OVR", FLUSH "r,STAR1,0c00\nw,STAR1,f3ff\nr,CTLR2,0008\nw,CTLR2,0008\nr,STAR2,0003\nend,6");
+    follow(&c, "listen, OVR", FLUSH "r,STAR1,0c00\nw,STAR1,f3ff\nr,CTLR2,0008\nw,CTLR2,0008\nr,STAR2,0003\nend,6,0c00");
 
     plain_call(&c, RESPOND_TO_WRITE);
     c.read_length = 2;
@@ -275,7 +283,7 @@ static void slaves(void)
     arrived("respond_to_write, START again", (const uint8_t *)"\x11", 1);
     plain_call(&c, RESPOND_TO_WRITE);
     before = c;
-    follow(&c, "respond_to_write, ARLO", "r,STAR1,0040\nr,DATAR,0011\nr,STAR1,0200\nw,STAR1,fdff\n" SLAVE_ABORT "end,2");
+    follow(&c, "respond_to_write, ARLO", "r,STAR1,0040\nr,DATAR,0011\nr,STAR1,0200\nw,STAR1,fdff\n" SLAVE_ABORT "end,2,0200");
     arrived("respond_to_write, ARLO", (const uint8_t *)"\x11", 1);
 
     plain_call(&c, RESPOND_TO_READ);
@@ -298,7 +306,7 @@ static void slaves(void)
     c.written_length = 0;
     follow(&c, "respond_to_read, nothing sent", "r,STAR1,0002\nend,0,0000");
     plain_call(&c, RESPOND_TO_READ);
-    follow(&c, "respond_to_read, TIMEOUT", "r,STAR1,4000\nw,STAR1,bfff\nr,CTLR2,0008\nw,CTLR2,0008\nr,STAR2,0000\nend,4");
+    follow(&c, "respond_to_read, TIMEOUT", "r,STAR1,4000\nw,STAR1,bfff\nr,CTLR2,0008\nw,CTLR2,0008\nr,STAR2,0000\nend,4,4000");
 }
 
 /* Bits that do not matter are all set or all clear, so that a wait or a change that looks at others, or alters others, shows. */
@@ -333,12 +341,12 @@ static void noise(void)
     noisy_call(READ, "read 4 with noise, last frame without STOP", 5, 4,
                "r,CTLR1,0000\nw,CTLR1,0000\n" NOISY_RECEIVE("0001") NOISY_BTF "r,CTLR1,ffff\nw,CTLR1,fbff\nr,DATAR,0002\n" NOISY_BTF
                "r,CTLR1,0000\nw,CTLR1,0100\nr,DATAR,0003\nr,DATAR,0004\nend,0");
-    noisy_call(WRITE, "abort, not master", 3, 1, "r,STAR1,0400\nw,STAR1,fbff\nr,CTLR2,ffff\nw,CTLR2,e0ff\nr,CTLR1,fcff\nr,STAR2,fffe\nend,3");
+    noisy_call(WRITE, "abort, not master", 3, 1, "r,STAR1,0400\nw,STAR1,fbff\nr,CTLR2,ffff\nw,CTLR2,e0ff\nr,CTLR1,fcff\nr,STAR2,fffe\nend,3,0400");
     noisy_call(WRITE, "abort, master", 3, 1,
-               "r,STAR1,0400\nw,STAR1,fbff\nr,CTLR2,0000\nw,CTLR2,0000\nr,CTLR1,fcff\nr,STAR2,0001\nr,CTLR1,0000\nw,CTLR1,0200\nend,3");
+               "r,STAR1,0400\nw,STAR1,fbff\nr,CTLR2,0000\nw,CTLR2,0000\nr,CTLR1,fcff\nr,STAR2,0001\nr,CTLR1,0000\nw,CTLR1,0200\nend,3,0400");
     noisy_call(WRITE, "abort, STOP asked", 3, 1,
                "r,STAR1,0400\nw,STAR1,fbff\nr,CTLR2,0000\nw,CTLR2,0000\nr,CTLR1,0200\nr,CTLR2,ffc0\nr,CKCFGR,ffff\nr,RTR,ffff\n"
-               "w,CTLR1,8000\nw,CTLR1,0000\nw,CTLR2,0000\nw,CKCFGR,ffff\nw,RTR,ffff\nw,CTLR1,0001\nend,3");
+               "w,CTLR1,8000\nw,CTLR1,0000\nw,CTLR2,0000\nw,CKCFGR,ffff\nw,RTR,ffff\nw,CTLR1,0001\nend,3,0400");
     noisy_call(LISTEN, "listen with noise", 0, 0,
                "r,STAR1,ffff\nr,CTLR1,0000\nw,CTLR1,0000\nr,STAR1,a0ff\nr,CTLR2,ffff\nw,CTLR2,fbff\nr,CTLR1,0000\nw,CTLR1,0400\n"
                "r,STAR1,a0fd\nc,clock,0000\nr,STAR1,0002\nr,STAR2,ff6b\nr,OADDR1,7fff\nend,0,207f");
@@ -405,7 +413,7 @@ static void errors_at(uint64_t next, unsigned flags, unsigned others, int slave)
     }
     while (ch32_i2c_kind_of(next) != CH32_I2C_KIND_END && steps++ < 10)
         next = step(&c, 0);
-    check(next == ending(end), "%s: flags %#x, chip %u: got %#llx", entry_names[c.entry], flags, c.chip, (unsigned long long)next);
+    check(next == (ending(end) | (uint64_t)(flags & 0x5f00) << 48), "%s: flags %#x, chip %u: got %#llx", entry_names[c.entry], flags, c.chip, (unsigned long long)next);
 }
 
 void test_errors(void)

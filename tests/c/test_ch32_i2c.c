@@ -34,6 +34,7 @@ static const struct {
     {"the last value before each refusal", test_limits},
     {"every pair of own and second address", test_own_addresses},
     {"both counts of a reply", test_left_over},
+    {"the flags of an error", test_flags},
     {"null pointers with length 0", test_null},
     {"blocks of other lengths", test_block_lengths},
     {"steps that are lent what begin refuses", test_lent_at_steps},

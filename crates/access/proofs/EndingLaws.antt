@@ -4,18 +4,18 @@ use Prim.Native.Nat.{ℕ, _+_, _*_, _/_, _%_, _<_, _≤_}
 use mathlib.Core.Path.{_≡_, refl, sym, ap, subst, _∙_}
 use mathlib.Core.Bool.{Bool, true, false, not, cond, _&&_, _||_, true≢false}
 use native.Mathlib.Omega.{arith}
-use lib.Dec.{eqb, leb, ltb}
-use borrow.Author.Tests.{eqb-true, ne-eqb, lt-ltb}
+use lib.Dec.{eqb, ltb}
+use borrow.Author.Tests.{eqb-true, ne-eqb, lt-ltb, ltb-true}
 use Rattle.access.specs.declared.ending.Error.{Error}
 use Rattle.access.specs.declared.ending.Error.the-variants.{Bus, Arbitration, Nack, Timeout, Crc, Overrun, BufferTooLong, InvalidAddress, InvalidFrequency, DividerTooLarge, InputTooSlow, TooManyOperations, LengthMismatch, InvalidState, InvalidArgument, ReservedAddress, BlockLength, WrongCode, NoSuchSpeed, NoAllowance, TooManyBuses, TooManyItems, NoOrder, NoSuchDate, WrongDate, MapLength}
 use Rattle.access.specs.declared.ending.Failure.{Failure}
 use Rattle.access.specs.declared.ending.Ending.{Ending}
 use Rattle.access.specs.declared.ending.Ending.the-variants.{Done, Failed}
-use Rattle.access.specs.Endings.{errorNumber, errorOf, failureOf, done, returnedBoth, failed, endingError, endingValue, endingExtra, extraPlace, wordsNumber, endingNumber, endingOf, endingIn, isEnding, isPlain, isDone, hasFailed}
+use Rattle.access.specs.Endings.{errorNumber, errorOf, flagged, done, returnedBoth, endingError, endingValue, endingExtra, extraPlace, wordsNumber, endingNumber, endingOf, endingIn, isEnding, isPlain, isDone}
 use Rattle.access.specs.Numbers.{EndHoldsWords}
 use Rattle.access.proofs.Choice.{when-true, when-false, first-true, second-true}
 use Rattle.access.proofs.Bytes.{bytes}
-use Rattle.access.proofs.Compared.{turned, itself}
+use Rattle.access.proofs.Compared.{turned, itself, with-true}
 
 -- an error by its number
 record ErrorBack (e : Error) : Type 0 where
@@ -57,14 +57,14 @@ both-same p q = λ i. returnedBoth (p i) (q i)
 
 -- what is not done, by its words
 abbrev failedBy : ℕ → ℕ → Ending
-failedBy n x = failed (errorOf n)
+failedBy n x = Failed (flagged (errorOf n) x)
 
 pub ending-back : (e : Ending) → endingOf (endingError e) (endingValue e) (endingExtra e) ≡ e
 ending-back (Done o) = refl
 ending-back (Failed f) =
     let n = errorNumber (f .error) in
     let b = error-back (f .error) in
-    sym (when-false (returnedBoth 0 0) (failedBy n 0) (ne-eqb n 0 (λ z. omega (arith, b .above, z)))) ∙ ap failed (b .back)
+    sym (when-false (returnedBoth 0 (f .flags)) (failedBy n (f .flags)) (ne-eqb n 0 (λ z. omega (arith, b .above, z)))) ∙ ap (λ (e : Error). Failed (flagged e (f .flags))) (b .back)
 
 -- ---- the words in C's number
 
@@ -78,11 +78,11 @@ value-below (Failed f) h = omega arith
 
 pub extra-below : (e : Ending) → EndHoldsWords e → endingExtra e < 65536
 extra-below (Done o) h = h .1
-extra-below (Failed f) h = omega arith
+extra-below (Failed f) h = h
 
 pub words-hold : (e : Ending) → endingValue e < 65536 → endingExtra e < 65536 → EndHoldsWords e
 words-hold (Done o) h k = (h, k)
-words-hold (Failed f) h k = tt
+words-hold (Failed f) h k = k
 
 module _ (n v x : ℕ) (h : n < 256) (l : v < 65536) (k : x < 65536) where
   -- 0 in the place of the kind, and each word in its own
@@ -122,27 +122,55 @@ end-kind e h = in-place (endingError e) (endingValue e) (endingExtra e) (error-b
 error-range : (n : ℕ) → n < 256 → eqb (errorNumber (errorOf n)) n ≡ not (eqb n 0) && (not (eqb n 7) && ltb n 28)
 error-range = bytes (λ n. not (eqb n 0) && (not (eqb n 7) && ltb n 28)) (λ n. eqb (errorNumber (errorOf n)) n) refl
 
-pub ending-range : (n v x : ℕ) → n < 256 → isEnding n v x ≡ (not (eqb n 7) && ltb n 28) && isPlain n v x
+-- an error from 1 to 6 is told by its number
+small-or-far : (n : ℕ) → n < 256 → true ≡ eqb (errorNumber (errorOf n)) n || ((eqb n 0 || ltb 6 n) && ltb 6 (errorNumber (errorOf n)))
+small-or-far = bytes (λ n. eqb (errorNumber (errorOf n)) n || ((eqb n 0 || ltb 6 n) && ltb 6 (errorNumber (errorOf n)))) (λ n. true) refl
+
+pub small-number : (n : ℕ) → n < 256 → errorNumber (errorOf n) ≤ 6 → n ≤ 6
+small-number n l h = go (eqb (errorNumber (errorOf n)) n) refl (small-or-far n l)
+  where
+    go : (b : Bool) → eqb (errorNumber (errorOf n)) n ≡ b → true ≡ b || ((eqb n 0 || ltb 6 n) && ltb 6 (errorNumber (errorOf n))) → n ≤ 6
+    go true e q = subst (λ (m : ℕ). m ≤ 6) (eqb-true (errorNumber (errorOf n)) n e) h
+    go false e q =
+        let y : 6 < errorNumber (errorOf n) = ltb-true 6 (errorNumber (errorOf n)) (second-true (eqb n 0 || ltb 6 n) (ltb 6 (errorNumber (errorOf n))) (sym q)) in
+        omega (arith, h, y)
+
+pub small-told : (k n : ℕ) → 0 < k → k ≤ 6 → n < 256 → eqb k n ≡ not (eqb n 0) && eqb k (errorNumber (errorOf n))
+small-told k n a h l = go (eqb (errorNumber (errorOf n)) n) (eqb n 0) refl refl
+  where
+    far : (p : Bool) → eqb (errorNumber (errorOf n)) n ≡ p → p ≡ false → (eqb n 0 || ltb 6 n) && ltb 6 (errorNumber (errorOf n)) ≡ true
+    far p e z = sym (small-or-far n l ∙ rw (e ∙ z))
+
+    go : (p q : Bool) → eqb (errorNumber (errorOf n)) n ≡ p → eqb n 0 ≡ q → eqb k n ≡ not q && eqb k (errorNumber (errorOf n))
+    go p true e z = ne-eqb k n (λ w. let m : n ≡ 0 = eqb-true n 0 z in omega (arith, a, w, m))
+    go true false e z = ap (eqb k) (sym (eqb-true (errorNumber (errorOf n)) n e))
+    go false false e z =
+        let f = far false e refl in
+        let x : 6 < n = ltb-true 6 n (subst (λ (b : Bool). b || ltb 6 n ≡ true) z (first-true (eqb n 0 || ltb 6 n) (ltb 6 (errorNumber (errorOf n))) f)) in
+        let y : 6 < errorNumber (errorOf n) = ltb-true 6 (errorNumber (errorOf n)) (second-true (eqb n 0 || ltb 6 n) (ltb 6 (errorNumber (errorOf n))) f) in
+        ne-eqb k n (λ w. omega (arith, h, x, w)) ∙ sym (ne-eqb k (errorNumber (errorOf n)) (λ w. omega (arith, h, y, w)))
+
+pub ending-range : (n v x : ℕ) → n < 256 → isEnding n v x ≡ (not (eqb n 7) && ltb n 28) && isPlain n v
 unfolding isEnding
 ending-range n v x h = go (eqb n 0) refl
   where
-    go : (b : Bool) → eqb n 0 ≡ b → eqb (endingError (endingOf n v x)) n && (eqb (endingValue (endingOf n v x)) v && eqb (endingExtra (endingOf n v x)) x) ≡ (not (eqb n 7) && ltb n 28) && isPlain n v x
+    go : (b : Bool) → eqb n 0 ≡ b → eqb (endingError (endingOf n v x)) n && (eqb (endingValue (endingOf n v x)) v && eqb (endingExtra (endingOf n v x)) x) ≡ (not (eqb n 7) && ltb n 28) && isPlain n v
     go true e = rw (eqb-true n 0 e, itself v, itself x)
-    go false e = rw (e, error-range n h, e, turned 0 v, turned 0 x)
+    go false e = rw (e, error-range n h, e, turned 0 v, itself x, with-true (eqb v 0))
 
 -- words that are an end's say nothing that it has no use for; and so do others whose number is small
-pub ending-plain : (n v x : ℕ) → isEnding n v x ≡ true → isPlain n v x ≡ true
+pub ending-plain : (n v x : ℕ) → isEnding n v x ≡ true → isPlain n v ≡ true
 unfolding isEnding
 ending-plain n v x e = go (eqb n 0) refl
   where
     rest : eqb (endingValue (endingOf n v x)) v && eqb (endingExtra (endingOf n v x)) x ≡ true
     rest = second-true (eqb (endingError (endingOf n v x)) n) (eqb (endingValue (endingOf n v x)) v && eqb (endingExtra (endingOf n v x)) x) e
 
-    go : (b : Bool) → eqb n 0 ≡ b → isPlain n v x ≡ true
+    go : (b : Bool) → eqb n 0 ≡ b → isPlain n v ≡ true
     go true z = rw z
-    go false z = let r : eqb 0 v && eqb 0 x ≡ true = rw z at rest in rw (z, turned v 0, turned x 0) r
+    go false z = let r : eqb 0 v && eqb x x ≡ true = rw z at rest in rw (z, turned v 0) (first-true (eqb 0 v) (eqb x x) r)
 
-pub plain-ending : (n v x : ℕ) → n ≤ 6 → isPlain n v x ≡ true → isEnding n v x ≡ true
+pub plain-ending : (n v x : ℕ) → n ≤ 6 → isPlain n v ≡ true → isEnding n v x ≡ true
 plain-ending n v x h e = ending-range n v x (omega (arith, h)) ∙ rw (ne-eqb n 7 (λ z. omega (arith, h, z)), lt-ltb n 28 (omega (arith, h)), e)
 
 -- ---- an end by its words: by 0 one that is done, by another number one that failed
@@ -151,28 +179,15 @@ pub as-returned : (P : Ending → Type 0) (n v x : ℕ) → eqb n 0 ≡ true →
 as-returned P n v x z p = subst P (when-true (returnedBoth v x) (failedBy n x) z) p
 
 pub as-failed : (P : Ending → Type 0) (n v x : ℕ) → eqb n 0 ≡ false → ((f : Failure) → P (Failed f)) → P (endingOf n v x)
-as-failed P n v x z p = subst P (when-false (returnedBoth v x) (failedBy n x) z) (p (failureOf (errorOf n)))
+as-failed P n v x z p = subst P (when-false (returnedBoth v x) (failedBy n x) z) (p (flagged (errorOf n) x))
 
--- done with nothing to return, or an error from 1 to 6
+-- done with nothing to return
 pub done-told : (n v x : ℕ) → eqb n 0 && (eqb v 0 && eqb x 0) ≡ isDone (endingOf n v x)
 done-told n v x = go (eqb n 0)
   where
     go : (b : Bool) → b && (eqb v 0 && eqb x 0) ≡ isDone (cond b (returnedBoth v x) (failedBy n x))
     go true = refl
     go false = refl
-
-any-words : (n v x : ℕ) → hasFailed (endingOf n 0 0) ≡ hasFailed (endingOf n v x)
-any-words n v x = go (eqb n 0)
-  where
-    go : (b : Bool) → hasFailed (cond b (returnedBoth 0 0) (failedBy n 0)) ≡ hasFailed (cond b (returnedBoth v x) (failedBy n x))
-    go true = refl
-    go false = refl
-
-met-range : (n : ℕ) → n < 256 → ltb 0 n && leb n 6 ≡ hasFailed (endingOf n 0 0)
-met-range = bytes (λ n. hasFailed (endingOf n 0 0)) (λ n. ltb 0 n && leb n 6) refl
-
-pub failed-told : (n v x : ℕ) → n < 256 → ltb 0 n && leb n 6 ≡ hasFailed (endingOf n v x)
-failed-told n v x h = met-range n h ∙ any-words n v x
 
 pub ended-done : (e : Ending) → isDone e ≡ true → e ≡ done
 ended-done (Done o) h =

@@ -1,7 +1,7 @@
 -- How a call ends, and document 01's number for it.
 use Prim.Native.Nat.{ℕ, _+_, _*_, _/_, _%_}
 use mathlib.Core.Bool.{Bool, false, cond, _&&_, _||_}
-use lib.Dec.{eqb, leb}
+use lib.Dec.{eqb}
 use Rattle.access.specs.declared.ending.Error.{Error}
 use Rattle.access.specs.declared.ending.Error.the-variants.{Bus, Arbitration, Nack, Timeout, Crc, Overrun, BufferTooLong, InvalidAddress, InvalidFrequency, DividerTooLarge, InputTooSlow, TooManyOperations, LengthMismatch, InvalidState, InvalidArgument, ReservedAddress, BlockLength, WrongCode, NoSuchSpeed, NoAllowance, TooManyBuses, TooManyItems, NoOrder, NoSuchDate, WrongDate, MapLength}
 use Rattle.access.specs.declared.ending.Failure.{Failure}
@@ -36,8 +36,12 @@ errorNumber NoSuchDate = 25
 errorNumber WrongDate = 26
 errorNumber MapLength = 27
 
+-- an error with the flags that an error check cleared; and one that no check found, which has none
+abbrev pub flagged : Error → ℕ → Failure
+flagged e w = record { error = e; flags = w }
+
 abbrev pub failureOf : Error → Failure
-failureOf e = record { error = e }
+failureOf e = flagged e 0
 
 -- done, with two numbers, with one, and with nothing to return; not done
 abbrev pub returnedBoth : ℕ → ℕ → Ending
@@ -53,7 +57,7 @@ abbrev pub failed : Error → Ending
 failed e = Failed (failureOf e)
 
 -- AN END IN WORDS, for C's number and for the block of a call: the number of its error, or 0; the value that it returns; and one number more,
--- in which an end says what else there is to know: the second number of one that is done. An error has nothing there yet.
+-- in which an end says what else there is to know: the second number of one that is done, or the flags of an error.
 abbrev pub endingError : Ending → ℕ
 endingError (Done o) = 0
 endingError (Failed f) = errorNumber (f .error)
@@ -64,7 +68,7 @@ endingValue (Failed f) = 0
 
 abbrev pub endingExtra : Ending → ℕ
 endingExtra (Done o) = o .second
-endingExtra (Failed f) = 0
+endingExtra (Failed f) = f .flags
 
 -- what C sees of it: the number in bits 8 to 15, the value in bits 16 to 31; the extra number in bits 32 to 47 of an end with 0, and in bits
 -- 48 to 63 of an error
@@ -107,7 +111,7 @@ errorOf n =
     (cond (eqb n 26) WrongDate MapLength))))))))))))))))))))))))
 
 abbrev pub endingOf : ℕ → ℕ → ℕ → Ending
-endingOf n v x = cond (eqb n 0) (returnedBoth v x) (failed (errorOf n))
+endingOf n v x = cond (eqb n 0) (returnedBoth v x) (Failed (flagged (errorOf n) x))
 
 -- the ending of what C sees
 abbrev pub endingIn : ℕ → Ending
@@ -117,17 +121,9 @@ endingIn n = endingOf (n / 256 % 256) (n / 65536 % 65536) (n / extraPlace (n / 2
 unfoldable pub isEnding : ℕ → ℕ → ℕ → Bool
 isEnding n v x = eqb (endingError (endingOf n v x)) n && (eqb (endingValue (endingOf n v x)) v && eqb (endingExtra (endingOf n v x)) x)
 
--- no word beside the number says what such an end has no use for
-abbrev pub isPlain : ℕ → ℕ → ℕ → Bool
-isPlain n v x = eqb n 0 || (eqb v 0 && eqb x 0)
-
--- an error that can be met once accesses began: 1 to 6
-abbrev pub isMet : Error → Bool
-isMet e = leb (errorNumber e) 6
-
-abbrev pub hasFailed : Ending → Bool
-hasFailed (Done o) = false
-hasFailed (Failed f) = isMet (f .error)
+-- the value is one that such an end has a use for: what fails returns nothing
+abbrev pub isPlain : ℕ → ℕ → Bool
+isPlain n v = eqb n 0 || eqb v 0
 
 -- done, with nothing to return
 abbrev pub isDone : Ending → Bool

@@ -26,7 +26,7 @@ nextOf n =
 -- the values are 16-bit words, as they are in the code
 abbrev pub EndHoldsWords : Ending → Type 0
 EndHoldsWords (Done o) = (o .value < 65536) × (o .second < 65536)
-EndHoldsWords (Failed f) = Unit {0}
+EndHoldsWords (Failed f) = f .flags < 65536
 
 abbrev pub HoldsWords : Next → Type 0
 HoldsWords (Read r) = Unit {0}

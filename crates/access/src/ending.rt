@@ -2,7 +2,7 @@
 ghost use mathlib.Core.Path.{_≡_};
 ghost use Prim.Native.Nat.{_/_, _%_};
 ghost use Rattle.access.specs.Numbers.{EndHoldsWords};
-ghost use Rattle.access.specs.Endings.{errorNumber, endingError, endingValue, endingExtra, wordsNumber, endingNumber, errorOf, endingOf, endingIn, isEnding, isPlain, failureOf, done, returned, returnedBoth, failed, hasFailed, isDone};
+ghost use Rattle.access.specs.Endings.{errorNumber, endingError, endingValue, endingExtra, wordsNumber, endingNumber, errorOf, endingOf, endingIn, isEnding, isPlain, flagged, failureOf, done, returned, returnedBoth, failed, isDone};
 
 // The Rust's `Error`, and behind it the refusals that the port adds; 18 to 27 are for calls beside the Rust's. (The Rust's
 // `ZeroLengthTransfer`, 7, is never given.)
@@ -35,9 +35,10 @@ pub enum Error {
     MapLength,
 }
 
-// What is known of an error.
+// What is known of an error: an error check says which flags it cleared.
 pub struct Failure {
     pub error: Error,
+    pub flags: u16,
 }
 
 // What a call that is done returns: the bytes stored, the bytes left over or the command of a slave call, and else 0. The second
@@ -108,13 +109,13 @@ pub fn ending_value(ending: Ending) -> u16
     }
 }
 
-// What else there is to know: the second number that is returned.
+// What else there is to know: the second number that is returned, or the flags.
 pub fn ending_extra(ending: Ending) -> u16
     ensures { λ r. ⌜ r ≡ endingExtra ending ⌝ }
 {
     match ending {
         Ending::Done(outcome) => outcome.second,
-        Ending::Failed(_) => 0,
+        Ending::Failed(failure) => failure.flags,
     }
 }
 
@@ -129,16 +130,18 @@ pub fn words_number(error: u8, value: u16, extra: u16) -> u64
     error as u64 * 256 + value as u64 * 65536 + extra as u64 * 281474976710656
 }
 
-// An ending as C sees it.
+// An ending as C sees it. (Branch by branch, so that the compiler inlines what makes C's number.)
 pub fn ending_number(ending: Ending) -> u64
     ensures { λ r. ⌜ r ≡ endingNumber ending ⌝ }
     ensures { λ _. ⌜ EndHoldsWords ending ⌝ }
 {
-    words_number(
-        ending_error(ending),
-        ending_value(ending),
-        ending_extra(ending),
-    )
+    match ending {
+        Ending::Done(outcome) => words_number(0, outcome.value, outcome.second),
+        Ending::Failed(failure) => {
+            let error = failure.error;
+            words_number(error_number(error), 0, failure.flags)
+        }
+    }
 }
 
 // The error of a number.
@@ -181,25 +184,26 @@ pub fn ending_in(number: u64) -> Ending
 {
     let error = (number / 256 % 256) as u8;
     if error != 0 {
-        return failed(error_of(error));
+        let flags = (number / 281474976710656 % 65536) as u16;
+        return Ending::Failed(flagged(error_of(error), flags));
     }
     let value = (number / 65536 % 65536) as u16;
     let second = (number / 4294967296 % 65536) as u16;
     returned_both(value, second)
 }
 
-// No word beside the number says what such an end has no use for: a call that fails returns nothing.
-pub fn is_plain(error: u8, value: u16, extra: u16) -> bool
-    ensures { λ r. ⌜ r ≡ isPlain error value extra ⌝ }
+// The value is one that such an end has a use for: a call that fails returns nothing.
+pub fn is_plain(error: u8, value: u16) -> bool
+    ensures { λ r. ⌜ r ≡ isPlain error value ⌝ }
 {
-    (error == 0) | ((value == 0) & (extra == 0))
+    (error == 0) | (value == 0)
 }
 
 // Whether these are the words of an ending. No error is number 7.
 pub fn is_ending(error: u8, value: u16, extra: u16) -> bool
     ensures { λ r. ⌜ r ≡ isEnding error value extra ⌝ }
 {
-    ((error != 7) & (error < 28)) & is_plain(error, value, extra)
+    ((error != 7) & (error < 28)) & is_plain(error, value)
 }
 
 // Whether these are the words of an end that is not known yet: done, with nothing to return.
@@ -209,17 +213,18 @@ pub fn is_done(error: u8, value: u16, extra: u16) -> bool
     (error == 0) & ((value == 0) & (extra == 0))
 }
 
-// Whether these are the words of an error that was met once accesses began: 1 to 6.
-pub fn has_failed(error: u8, value: u16, extra: u16) -> bool
-    ensures { λ r. ⌜ r ≡ hasFailed (endingOf error value extra) ⌝ }
+// An error that an error check found, with the flags that it cleared.
+pub fn flagged(error: Error, flags: u16) -> Failure
+    ensures { λ r. ⌜ r ≡ flagged error flags ⌝ }
 {
-    (0 < error) & (error <= 6)
+    Failure { error, flags }
 }
 
+// An error that no error check found.
 pub fn failure_of(error: Error) -> Failure
     ensures { λ r. ⌜ r ≡ failureOf error ⌝ }
 {
-    Failure { error }
+    flagged(error, 0)
 }
 
 // Done, with nothing to return.

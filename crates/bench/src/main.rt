@@ -6,7 +6,7 @@ fn main() {
     let mut written = [0u8; 65536];
     let mut answers = [0u16; 4096];
     let mut read = [0u8; 65535];
-    let mut out = [0u8; 262163];
+    let mut out = [0u8; 262168];
     let m = bench_run::answer::answer(
         &text[..n],
         &mut list,

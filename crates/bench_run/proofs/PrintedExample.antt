@@ -8,7 +8,7 @@ use mathlib.Core.Option.{none, some}
 use Prim.Native.Nat.{ℕ, _≤_}
 use native.Mathlib.Omega.{arith}
 use lib.ListN.{length}
-use Rattle.registers.specs.declared.register.Register.the-variants.{Ctlr1, Datar, Star1, Star2}
+use Rattle.registers.specs.declared.register.Register.the-variants.{Ctlr1, Ctlr2, Datar, Star1, Star2}
 use Rattle.registers.specs.Word.{hasBit, putBit, fieldOf, putField}
 use Rattle.registers.specs.Flags.{errorFlags, clearError}
 use Rattle.registers.specs.Addresses.{addressWord}
@@ -26,9 +26,9 @@ use Rattle.master.specs.Rust as rust
 use Rattle.master.specs.Ours as ours
 use Rattle.bench_text.specs.Digits.{digitOf, pairOf, wordOf, glyph, wordText}
 use Rattle.bench_text.specs.Lines.{linesFrom}
-use Rattle.bench_text.specs.Forms.{wordsThenEnd, wordsOf, isHeader, headerOf, readLengthOf}
+use Rattle.bench_text.specs.Forms.{pairsThenEnd, bytesOf, wordsThenEnd, wordsOf, isHeader, headerOf, readLengthOf}
 use Rattle.bench_text.specs.Shown.{readText, writeText, arrivedText, endText, openText}
-use Rattle.bench_text.specs.Input.{Said, saidNothing, readsIn, answersIn, lineOf, saidWith, call, inputFrom, inputOf}
+use Rattle.bench_text.specs.Input.{Said, saidNothing, writesIn, readsIn, answersIn, lineOf, saidWith, call, inputFrom, inputOf}
 use Rattle.bench_run.specs.Printed.{printedOf}
 use Rattle.bench_run.specs.Layer1.{textOf}
 use Rattle.bench_run.specs.Claims.{causeOf, ourPlay, rustPlay}
@@ -80,7 +80,7 @@ whole =
     start
     (readText Star1 1 ++ (readText Ctlr1 0 ++ (readText Star2 1 ++ (writeText Datar 0xa1 ++ (readText Star1 2 ++ (readText Ctlr1 0 ++ (writeText Ctlr1 0 ++ (readText Star2 0
     ++ (readText Ctlr1 0 ++ (writeText Ctlr1 0x200 ++ (readText Star1 0x40 ++ (readText Star1 0x40 ++ (readText Datar 0x1a5 ++ (readText Ctlr1 0 ++ (readText Ctlr1 0 ++ (writeText Ctlr1 0
-    ++ (arrivedText (0xa5 ∷ []) ++ endText 0 17)))))))))))))))))
+    ++ (arrivedText (0xa5 ∷ []) ++ endText 0 17 0)))))))))))))))))
 
 all-text : textOf (ourPlay 52 0 0x50 (said all)) ≡ whole
 unfolding oursWith operationsOf rust.blocking-transaction rust.validate-address rust.validate-operations rust.validate-from rust.checked-add rust.transact rust.blocking-read-iter rust.start-and-address rust.launch-start rust.wait-stop-finished rust.wait-flag ours.check-and-clear-error-flags check-errors errorOf rust.abort-transfer rust.finish-transfer rust.generate-stop rust.recv-next rust.recv-byte hasBit putBit fieldOf putField errorFlags clearError addressWord checkTimeout late
@@ -93,6 +93,39 @@ module _ (read : List ℕ) (long : 65535 ≤ length read) where
 
   all-printed : printedOf (inputOf (input all)) read ≡ whole
   all-printed = bench-prints .accepted (input all) read long 0 0x50 (said all) all-said (accepted all) 52 (omega arith) ∙ all-text
+
+-- ---- document 01's example, an empty write that nobody acknowledges: behind the end stand the flags
+
+abbrev nobody : List ℕ
+nobody = 1 ∷ 1 ∷ 0 ∷ 1 ∷ 1 ∷ 1 ∷ 3 ∷ 0x400 ∷ 8 ∷ 1 ∷ 3 ∷ 1 ∷ []
+
+-- `T,0,21`, `W,`, and `A,` with these answers
+abbrev toNobody : List ℕ
+toNobody = (84 ∷ 44 ∷ 48 ∷ 44 ∷ 50 ∷ 49 ∷ 10 ∷ []) ++ ((87 ∷ 44 ∷ 10 ∷ []) ++ ((65 ∷ 44 ∷ []) ++ wordsLine nobody))
+
+abbrev saidToNobody : Said
+saidToNobody = record { list = 0 ∷ 0 ∷ 0 ∷ []; written = []; room = 0; answers = nobody; answered = true }
+
+nobody-said : inputOf toNobody ≡ call 0 0x21 saidToNobody
+unfolding inputOf linesFrom inputFrom headerOf isHeader lineOf writesIn answersIn saidWith pairsThenEnd bytesOf wordsThenEnd wordsOf wordOf pairOf digitOf glyph
+nobody-said = refl
+
+nobody-accepted : causeOf 0 0x21 saidToNobody ≡ none
+unfolding refusal shaped faultFrom operationsOf runsOf runsFrom
+nobody-accepted = refl
+
+abbrev nobodyText : List ℕ
+nobodyText =
+    readText Ctlr1 1 ++ (readText Ctlr1 1 ++ (readText Star1 0 ++ (readText Ctlr1 1 ++ (writeText Ctlr1 0x101 ++ (readText Star1 1 ++ (readText Ctlr1 1 ++ (readText Star2 3
+    ++ (writeText Datar 0x42 ++ (readText Star1 0x400 ++ (writeText Star1 0xfbff ++ (readText Ctlr2 8 ++ (writeText Ctlr2 8 ++ (readText Ctlr1 1 ++ (readText Star2 3
+    ++ (readText Ctlr1 1 ++ (writeText Ctlr1 0x201 ++ (arrivedText [] ++ endText 3 12 0x400)))))))))))))))))
+
+nobody-text : textOf (ourPlay 37 0 0x21 saidToNobody) ≡ nobodyText
+unfolding oursWith operationsOf rust.blocking-transaction rust.validate-address rust.validate-operations rust.validate-from rust.checked-add rust.transact rust.write-group rust.write-bytes rust.start-and-address rust.launch-start rust.wait-stop-finished rust.wait-flag ours.check-and-clear-error-flags check-errors errorOf rust.abort-transfer rust.finish-transfer rust.generate-stop hasBit putBit fieldOf putField errorFlags clearError addressWord checkTimeout late
+nobody-text = refl
+
+nobody-printed : (read : List ℕ) → 65535 ≤ length read → printedOf (inputOf toNobody) read ≡ nobodyText
+nobody-printed read long = bench-prints .accepted toNobody read long 0 0x21 saidToNobody nobody-said nobody-accepted 37 (omega arith) ∙ nobody-text
 
 -- ---- a refused call: address 0x80, which the Rust refuses too
 
@@ -108,7 +141,7 @@ to80-refused : causeOf 0 0x80 saidNothing ≡ some InvalidAddress
 unfolding refusal shaped
 to80-refused = refl
 
-to80-printed : (read : List ℕ) → 65535 ≤ length read → printedOf (inputOf to80) read ≡ arrivedText [] ++ endText 9 0
+to80-printed : (read : List ℕ) → 65535 ≤ length read → printedOf (inputOf to80) read ≡ arrivedText [] ++ endText 9 0 0
 to80-printed read long = bench-prints .refused to80 read long 0 0x80 saidNothing to80-said InvalidAddress to80-refused
 
 to80-rust : rustPlay 1 0 0x80 saidNothing ≡ noMore (some (failed InvalidAddress))

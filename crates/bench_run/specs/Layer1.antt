@@ -8,7 +8,7 @@ use Rattle.access.specs.Program.{Access, read, write, send, clock}
 use Rattle.access.specs.Record.{Event, Arrival, Shown}
 use Rattle.ch32_i2c.specs.Fed.{nextOf}
 use Rattle.bench_text.specs.Shown.{arrivedText, endText, openText}
-use Rattle.bench_run.specs.Play.{accessText}
+use Rattle.bench_run.specs.Play.{accessText, flagsOf}
 
 -- an access with its answer; a read or a question that has none yet is not printed
 abbrev pub lineAt : Access → Option ℕ → List ℕ
@@ -37,7 +37,7 @@ bytesIn xs = map (λ (x : Arrival). x .byte) xs
 -- a call without an end is open
 abbrev pub endLine : Option Ending → ℕ → List ℕ
 endLine none used = openText used
-endLine (some e) used = endText (endingError e) used
+endLine (some e) used = endText (endingError e) used (flagsOf e)
 
 abbrev pub textOf : Shown → List ℕ
 textOf s = linesOf (s .events) ++ (arrivedText (bytesIn (s .arrivals)) ++ endLine (s .end) (usedIn (s .events)))

@@ -6,6 +6,8 @@ use lib.Dec.{ltb}
 use lib.ListN.{length, getD, take}
 use Rattle.access.specs.declared.next.Next.{Next}
 use Rattle.access.specs.declared.next.Next.the-variants.{Read, Write, Clock, End}
+use Rattle.access.specs.declared.ending.Ending.{Ending}
+use Rattle.access.specs.declared.ending.Ending.the-variants.{Done, Failed}
 use Rattle.access.specs.Endings.{endingError}
 use Rattle.access.specs.Record.{isData}
 use Rattle.ch32_i2c.specs.Left.{Left}
@@ -38,12 +40,17 @@ accessText (Write r v) a = writeText r v
 accessText Clock a = clockText a
 accessText (End e) a = []
 
+-- the flags of an error
+abbrev pub flagsOf : Ending → ℕ
+flagsOf (Done o) = 0
+flagsOf (Failed f) = f .flags
+
 -- a call that has not ended is open
 abbrev pub endingText : Next → ℕ → List ℕ
 endingText (Read r) used = openText used
 endingText (Write r v) used = openText used
 endingText Clock used = openText used
-endingText (End e) used = endText (endingError e) used
+endingText (End e) used = endText (endingError e) used (flagsOf e)
 
 abbrev pub finishText : Next → List ℕ → ℕ → List ℕ
 finishText n bytes used = arrivedText bytes ++ endingText n used

@@ -22,7 +22,7 @@ pub fn answer(
     requires { ⌜ 65536 ≤ length (now written) ⌝ }
     requires { ⌜ 4096 ≤ length (now answers) ⌝ }
     requires { ⌜ 65535 ≤ length (now read) ⌝ }
-    requires { ⌜ 262163 ≤ length (now out) ⌝ }
+    requires { ⌜ 262168 ≤ length (now out) ⌝ }
     ensures { λ r. ⌜ Puts (now (out .entry)) 0 (printedOf (inputOf (now (text .entry))) (now (read .entry))) r (now (out .exit)) ⌝ }
     ensures { λ r. ⌜ r ≤ length (now (out .entry)) ⌝ }
 {

@@ -6,8 +6,9 @@ ghost use Rattle.access.specs.Record.{isData};
 ghost use Rattle.bench_text.specs.Puts.{Puts};
 ghost use Rattle.ch32_i2c.specs.Left.{left};
 ghost use Rattle.ch32_i2c.specs.Transfer.{transactionBegin};
-ghost use Rattle.bench_run.specs.Play.{asked, arriving, isEnd, accessText, endingText, finishText, playFrom, mostTurns};
+ghost use Rattle.bench_run.specs.Play.{asked, arriving, isEnd, accessText, flagsOf, endingText, finishText, playFrom, mostTurns};
 use crate::turn;
+use access::Ending;
 use access::Next;
 use access::ending;
 use bench_text::shown;
@@ -89,22 +90,36 @@ fn put_access(out: &mut [u8], at: usize, next: Next, answer: u16) -> usize
     }
 }
 
+// The flags of an error.
+fn flags_of(ending: Ending) -> u16
+    ensures { λ r. ⌜ r ≡ flagsOf ending ⌝ }
+{
+    match ending {
+        Ending::Done(_) => 0,
+        Ending::Failed(failure) => failure.flags,
+    }
+}
+
 fn put_ending(out: &mut [u8], at: usize, next: Next, used: u32) -> usize
-    requires { ⌜ at + 16 ≤ length (now out) ⌝ }
+    requires { ⌜ at + 21 ≤ length (now out) ⌝ }
     ensures { λ r. ⌜ Puts (now (out .entry)) at (endingText next used) r (now (out .exit)) ⌝ }
-    ensures { λ r. ⌜ r ≤ at + 16 ⌝ }
+    ensures { λ r. ⌜ r ≤ at + 21 ⌝ }
 {
     match next {
         Next::Read(_) => shown::put_open(out, at, used),
         Next::Write(_, _) => shown::put_open(out, at, used),
         Next::Clock => shown::put_open(out, at, used),
-        Next::End(ending) => shown::put_end(out, at, ending::ending_error(ending), used),
+        Next::End(ending) => {
+            let number = ending::ending_error(ending);
+            let flags = flags_of(ending);
+            shown::put_end(out, at, number, used, flags)
+        }
     }
 }
 
 // The bytes that arrived, and the end.
 fn put_last(out: &mut [u8], at: usize, next: Next, bytes: &[u8], used: u32) -> usize
-    requires { ⌜ at + 19 + (length (now bytes) + length (now bytes)) ≤ length (now out) ⌝ }
+    requires { ⌜ at + 24 + (length (now bytes) + length (now bytes)) ≤ length (now out) ⌝ }
     ensures { λ r. ⌜ Puts (now (out .entry)) at (finishText next (now (bytes .entry)) used) r (now (out .exit)) ⌝ }
     ensures { λ r. ⌜ r ≤ length (now (out .entry)) ⌝ }
 {
@@ -114,7 +129,7 @@ fn put_last(out: &mut [u8], at: usize, next: Next, bytes: &[u8], used: u32) -> u
 
 fn finish(out: &mut [u8], at: usize, next: Next, read: &[u8], arrived: usize, used: usize) -> usize
     requires { ⌜ used ≤ 4096 ⌝ }
-    requires { ⌜ at + 19 + (arrived + arrived) ≤ length (now out) ⌝ }
+    requires { ⌜ at + 24 + (arrived + arrived) ≤ length (now out) ⌝ }
     ensures { λ r. ⌜ Puts (now (out .entry)) at (finishText next (take arrived (now (read .entry))) used) r (now (out .exit)) ⌝ }
     ensures { λ r. ⌜ r ≤ length (now (out .entry)) ⌝ }
 {
@@ -134,7 +149,7 @@ fn go(
     out: &mut [u8],
 ) -> usize
     requires { ⌜ length (now answers) ≤ 4096 ⌝ }
-    requires { ⌜ 262163 ≤ length (now out) ⌝ }
+    requires { ⌜ 262168 ≤ length (now out) ⌝ }
     ensures { λ r. ⌜ Puts (now (out .entry)) 0 (playFrom mostTurns (now (list .entry)) (now (written .entry)) (now (answers .entry)) (left first (now (block .entry)) (now (read .entry))) 0 0) r (now (out .exit)) ⌝ }
     ensures { λ r. ⌜ r ≤ length (now (out .entry)) ⌝ }
 {
@@ -173,7 +188,7 @@ pub fn play(
     out: &mut [u8],
 ) -> usize
     requires { ⌜ length (now answers) ≤ 4096 ⌝ }
-    requires { ⌜ 262163 ≤ length (now out) ⌝ }
+    requires { ⌜ 262168 ≤ length (now out) ⌝ }
     ensures { λ r. ⌜ Puts (now (out .entry)) 0 (playFrom mostTurns (now (list .entry)) (now (written .entry)) (now (answers .entry)) (transactionBegin (now (block .entry)) chip address (now (list .entry)) (now (written .entry)) (now (read .entry))) 0 0) r (now (out .exit)) ⌝ }
     ensures { λ r. ⌜ r ≤ length (now (out .entry)) ⌝ }
 {

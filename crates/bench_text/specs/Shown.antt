@@ -37,17 +37,17 @@ clockText a = (99 ∷ 44 ∷ 99 ∷ 108 ∷ 111 ∷ 99 ∷ 107 ∷ []) ++ valueT
 abbrev pub arrivedText : List ℕ → List ℕ
 arrivedText bytes = (100 ∷ 44 ∷ []) ++ (hexText bytes ++ (10 ∷ []))
 
--- `,`, the answers used and the line feed
-abbrev pub usedText : ℕ → List ℕ
-usedText n = (44 ∷ []) ++ (decimalText n ++ (10 ∷ []))
+-- `,`, the answers used, and the error flags as a value
+abbrev pub usedText : ℕ → ℕ → List ℕ
+usedText n flags = (44 ∷ []) ++ (decimalText n ++ valueText flags)
 
 -- `end,` the number
-abbrev pub endText : ℕ → ℕ → List ℕ
-endText number used = (101 ∷ 110 ∷ 100 ∷ 44 ∷ []) ++ (decimalText number ++ usedText used)
+abbrev pub endText : ℕ → ℕ → ℕ → List ℕ
+endText number used flags = (101 ∷ 110 ∷ 100 ∷ 44 ∷ []) ++ (decimalText number ++ usedText used flags)
 
--- `end,open`
+-- `end,open`, without flags
 abbrev pub openText : ℕ → List ℕ
-openText used = (101 ∷ 110 ∷ 100 ∷ 44 ∷ 111 ∷ 112 ∷ 101 ∷ 110 ∷ []) ++ usedText used
+openText used = (101 ∷ 110 ∷ 100 ∷ 44 ∷ 111 ∷ 112 ∷ 101 ∷ 110 ∷ []) ++ usedText used 0
 
 -- `bad,` the line's number
 abbrev pub badText : ℕ → List ℕ

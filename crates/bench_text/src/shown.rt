@@ -77,34 +77,34 @@ pub fn put_arrived(out: &mut [u8], at: usize, bytes: &[u8]) -> usize
     put::put(out, hex, b"\n")
 }
 
-// The answers used, behind a call's number or `open`.
-fn put_used(out: &mut [u8], at: usize, used: u32) -> usize
-    requires { ⌜ at + 7 ≤ length (now out) ⌝ }
-    ensures { λ r. ⌜ Puts (now (out .entry)) at (usedText used) r (now (out .exit)) ⌝ }
-    ensures { λ r. ⌜ r ≤ at + 7 ⌝ }
+// The answers used and the error flags, behind a call's number or `open`.
+fn put_used(out: &mut [u8], at: usize, used: u32, flags: u16) -> usize
+    requires { ⌜ at + 12 ≤ length (now out) ⌝ }
+    ensures { λ r. ⌜ Puts (now (out .entry)) at (usedText used flags) r (now (out .exit)) ⌝ }
+    ensures { λ r. ⌜ r ≤ at + 12 ⌝ }
 {
     let comma = put::put(out, at, b",");
     let number = put::put_decimal(out, comma, used);
-    put::put(out, number, b"\n")
+    put_value(out, number, flags)
 }
 
-pub fn put_end(out: &mut [u8], at: usize, number: u8, used: u32) -> usize
-    requires { ⌜ at + 16 ≤ length (now out) ⌝ }
-    ensures { λ r. ⌜ Puts (now (out .entry)) at (endText number used) r (now (out .exit)) ⌝ }
-    ensures { λ r. ⌜ r ≤ at + 16 ⌝ }
+pub fn put_end(out: &mut [u8], at: usize, number: u8, used: u32, flags: u16) -> usize
+    requires { ⌜ at + 21 ≤ length (now out) ⌝ }
+    ensures { λ r. ⌜ Puts (now (out .entry)) at (endText number used flags) r (now (out .exit)) ⌝ }
+    ensures { λ r. ⌜ r ≤ at + 21 ⌝ }
 {
     let letters = put::put(out, at, b"end,");
     let decimal = put::put_decimal(out, letters, number as u32);
-    put_used(out, decimal, used)
+    put_used(out, decimal, used, flags)
 }
 
 pub fn put_open(out: &mut [u8], at: usize, used: u32) -> usize
-    requires { ⌜ at + 15 ≤ length (now out) ⌝ }
+    requires { ⌜ at + 20 ≤ length (now out) ⌝ }
     ensures { λ r. ⌜ Puts (now (out .entry)) at (openText used) r (now (out .exit)) ⌝ }
-    ensures { λ r. ⌜ r ≤ at + 15 ⌝ }
+    ensures { λ r. ⌜ r ≤ at + 20 ⌝ }
 {
     let letters = put::put(out, at, b"end,open");
-    put_used(out, letters, used)
+    put_used(out, letters, used, 0)
 }
 
 pub fn put_bad(out: &mut [u8], at: usize, line: u32) -> usize

@@ -18,7 +18,7 @@ use Rattle.access.specs.Machine.{kept, isEnd}
 use Rattle.access.proofs.EndingLaws.{words-hold}
 use Rattle.asked.specs.Asked.{Asks, needOf, needNumber}
 use Rattle.calls.specs.declared.stepped.Stepped.{Stepped}
-use Rattle.calls.specs.Kept.{Keeps, keepingBy}
+use Rattle.calls.specs.Kept.{Keeps, keepingWith, keepingBy}
 
 -- the number of a refused step
 pub refusal : Asks 3840 (need.End (failed InvalidState))
@@ -51,6 +51,6 @@ open-keeps true n a bytes = go (isEnd n) refl
     go true e = end-keeps n a bytes e
     go false e = refl
 
-pub keeping-is : (asked refused : ℕ) (k : Bool) (place : ℕ) (n : Need) → n ≡ needOf asked → refused ≡ needNumber (need.End (failed InvalidState))
-    → _≡_ {A = Stepped} (record { need = n; keeps = k && not (eqb asked refused); place = place }) (keepingBy asked k place)
-keeping-is asked refused k place n e r = rw (e, r)
+-- by the number, where the enum was made of it
+pub keeping-by : {r : Stepped} {n : Need} (asked : ℕ) (k : Bool) (place : ℕ) → n ≡ needOf asked → r ≡ keepingWith n asked k place → r ≡ keepingBy asked k place
+keeping-by asked k place e q = q ∙ ap (λ (m : Need). keepingWith m asked k place) e

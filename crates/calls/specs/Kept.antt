@@ -20,9 +20,12 @@ use Rattle.calls.specs.OnBlock.{OnBlock, owedIn, stepOn, Does}
 abbrev pub refusedStep : Stepped
 refusedStep = record { need = need.End (failed InvalidState); keeps = false; place = 0 }
 
--- a step by the number that it asks for, where a byte is to be kept at a place if it is taken
+-- a step by what it asks for, also as a number, where a byte is to be kept at a place if it is taken
+abbrev pub keepingWith : Need → ℕ → Bool → ℕ → Stepped
+keepingWith n asked kept place = record { need = n; keeps = kept && not (eqb asked (needNumber (need.End (failed InvalidState)))); place = place }
+
 abbrev pub keepingBy : ℕ → Bool → ℕ → Stepped
-keepingBy asked kept place = record { need = needOf asked; keeps = kept && not (eqb asked (needNumber (need.End (failed InvalidState)))); place = place }
+keepingBy asked kept place = keepingWith (needOf asked) asked kept place
 
 -- what the answer a to the need n stores, by what a step told
 abbrev pub Keeps : Need → ℕ → Stepped → Type 0

@@ -50,5 +50,5 @@ pub fn receive_step(block: &mut [u8], size: usize, answer: u16) -> Stepped
     let count = put::count_at(block);
     let kept = keep::is_kept(block[at::GROUP], size, count);
     let asked = step::step(block, images::numbers::RESPOND_TO_WRITE, size, answer);
-    stepped::keeping(asked, kept, count)
+    stepped::keeping(asked::need_of(asked), asked, kept, count)
 }

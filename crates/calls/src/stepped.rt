@@ -2,7 +2,7 @@
 ghost use mathlib.Core.Path.{_≡_};
 ghost use Rattle.access.specs.declared.need.Need.the-variants as need;
 ghost use Rattle.access.specs.Endings.{failed};
-ghost use Rattle.calls.specs.Kept.{refusedStep, keepingBy};
+ghost use Rattle.calls.specs.Kept.{refusedStep, keepingWith};
 use access::Error;
 use access::Need;
 use access::ending;
@@ -31,12 +31,13 @@ pub fn refused_step() -> Stepped
     }
 }
 
-// What a step asks for by number; the answer's byte is kept if one was to be, and the step is taken.
-pub fn keeping(asked: u64, kept: bool, place: u32) -> Stepped
-    ensures { λ r. ⌜ r ≡ keepingBy asked kept place ⌝ }
+// What a step asks for, also as a number; the answer's byte is kept if one was to be, and the step is taken. (Who calls this makes the
+// enum: with that in here it is too large for the compiler to inline.)
+pub fn keeping(need: Need, asked: u64, kept: bool, place: u32) -> Stepped
+    ensures { λ r. ⌜ r ≡ keepingWith need asked kept place ⌝ }
 {
     Stepped {
-        need: asked::need_of(asked),
+        need,
         keeps: kept & (asked != asked::refused()),
         place,
     }

@@ -51,7 +51,7 @@ pub fn transaction_step(
     let kept = keep::is_kept(block[at::GROUP], block[at::PHASE]);
     let place = bytes32::word_at(block, at::PLACE);
     let asked = transaction::transaction_step(block, list, written, room, answer);
-    stepped::keeping(asked, kept, place as u32)
+    stepped::keeping(asked::need_of(asked), asked, kept, place as u32)
 }
 
 pub fn write_read_step(block: &mut [u8], written: usize, room: usize, answer: u16) -> Stepped
@@ -63,7 +63,7 @@ pub fn write_read_step(block: &mut [u8], written: usize, room: usize, answer: u1
     let kept = keep::is_kept(block[at::GROUP], block[at::PHASE]);
     let place = bytes32::word_at(block, at::PLACE);
     let asked = write_read::write_read_step(block, written, room, answer);
-    stepped::keeping(asked, kept, place as u32)
+    stepped::keeping(asked::need_of(asked), asked, kept, place as u32)
 }
 
 pub fn write_step(block: &mut [u8], written: usize, answer: u16) -> Need
@@ -84,5 +84,5 @@ pub fn read_step(block: &mut [u8], room: usize, answer: u16) -> Stepped
     let kept = keep::is_kept(block[at::GROUP], block[at::PHASE]);
     let place = bytes32::word_at(block, at::PLACE);
     let asked = frame::read_step(block, room, answer);
-    stepped::keeping(asked, kept, place as u32)
+    stepped::keeping(asked::need_of(asked), asked, kept, place as u32)
 }

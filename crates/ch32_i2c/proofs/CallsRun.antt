@@ -56,7 +56,7 @@ use Rattle.ch32_i2c.specs.Fed.{Entry, lastFrom, Makes}
 use Rattle.ch32_i2c.specs.Init as cInit
 use Rattle.ch32_i2c.specs.Transfer.{masterBegin}
 use Rattle.ch32_i2c.specs.InitSlave as cInitSlave
-use Rattle.ch32_i2c.specs.Demands.{Call, unknown, ownRefusal, Accepted, timedRefusal, IsMet}
+use Rattle.ch32_i2c.specs.Demands.{Call, unknown, ownRefusal, Accepted, timedRefusal, initEnds, transferEnds, responseEnds, IsMet}
 use Rattle.ch32_i2c.proofs.Carried.{Carries, carried, still-open, over, shown-over, unread, carries-unread}
 use Rattle.ch32_i2c.proofs.Recorded.{Recorded, recorded}
 use Rattle.ch32_i2c.proofs.MetEnds.{MetNeed, shown-met}
@@ -85,11 +85,11 @@ parts c block bytes a =
 
 -- ---- what is seen
 
--- a call through its entry e, that returns two numbers or not, shows this after each list of answers
-pub record Runs (two : Bool) (e : Entry) (takes : List ℕ → List ℕ → Bool) (block bytes : List ℕ) (shown : List ℕ → Shown) : Type 0 where
+-- a call through its entry e, with these ends, shows this after each list of answers
+pub record Runs (can : Ending → Bool) (e : Entry) (takes : List ℕ → List ℕ → Bool) (block bytes : List ℕ) (shown : List ℕ → Shown) : Type 0 where
   pub makes : (answers : List ℕ) → Makes e block bytes answers (shown answers)
   pub recorded : (answers : List ℕ) → Recorded (shown answers) answers
-  pub met : (answers : List ℕ) → IsMet two (shown answers .end)
+  pub met : (answers : List ℕ) → IsMet can (shown answers .end)
   -- while there is no end a step takes the block that is left
   pub still-open : (answers : List ℕ) → shown answers .end ≡ none → takes (lastFrom e (e .begin block bytes) answers .block) (lastFrom e (e .begin block bytes) answers .read) ≡ true
   -- behind an end the same is shown, and what is left stays
@@ -98,12 +98,12 @@ pub record Runs (two : Bool) (e : Entry) (takes : List ℕ → List ℕ → Bool
       → lastFrom e (e .begin block bytes) (answers ++ (a ∷ [])) ≡ refusedWith InvalidState (lastFrom e (e .begin block bytes) answers .block) (lastFrom e (e .begin block bytes) answers .read)
 
 -- the same, shown in other words
-runs-as : {two : Bool} {e : Entry} {takes : List ℕ → List ℕ → Bool} {block bytes : List ℕ} (f g : List ℕ → Shown) → ((answers : List ℕ) → f answers ≡ g answers) → Runs two e takes block bytes f → Runs two e takes block bytes g
-runs-as {two} {e} {takes} {block} {bytes} f g q r =
+runs-as : {can : Ending → Bool} {e : Entry} {takes : List ℕ → List ℕ → Bool} {block bytes : List ℕ} (f g : List ℕ → Shown) → ((answers : List ℕ) → f answers ≡ g answers) → Runs can e takes block bytes f → Runs can e takes block bytes g
+runs-as {can} {e} {takes} {block} {bytes} f g q r =
     record {
       makes = λ answers. subst (λ (s : Shown). Makes e block bytes answers s) (q answers) (r .makes answers);
       recorded = λ answers. subst (λ (s : Shown). Recorded s answers) (q answers) (r .recorded answers);
-      met = λ answers. subst (λ (s : Shown). IsMet two (s .end)) (q answers) (r .met answers);
+      met = λ answers. subst (λ (s : Shown). IsMet can (s .end)) (q answers) (r .met answers);
       still-open = λ answers h. r .still-open answers (ap (λ (s : Shown). s .end) (q answers) ∙ h);
       stays = λ answers more x h. sym (q (answers ++ more)) ∙ r .stays answers more x (ap (λ (s : Shown). s .end) (q answers) ∙ h) ∙ q answers;
       over = λ answers x h. r .over answers x (ap (λ (s : Shown). s .end) (q answers) ∙ h);
@@ -126,24 +126,24 @@ module _ (c : master.Call) (l : Lent) (accepted : refusal c l ≡ none) where
 
     transfer-runs-with : (e : Entry) (takes : List ℕ → List ℕ → Bool) → Carries (master (shapeOf c l)) (l .written) (l .room) e (transfer.imageOf c l) (transfer.Fit c l)
         → ((m : Move) (r : List ℕ) → transfer.Fit c l m → length r ≡ l .room → takes (transfer.imageOf c l m) r ≡ not (isEnd (owed (shapeOf c l) m)))
-        → e .begin block bytes ≡ left (filled (l .written) (owed (shapeOf c l) (start (shapeOf c l)))) (transfer.imageOf c l (start (shapeOf c l))) bytes → Runs false e takes block bytes (callShown c l)
+        → e .begin block bytes ≡ left (filled (l .written) (owed (shapeOf c l) (start (shapeOf c l)))) (transfer.imageOf c l (start (shapeOf c l))) bytes → Runs (transferEnds (c .chip)) e takes block bytes (callShown c l)
     transfer-runs-with e takes k t b =
         runs-as machineShown (callShown c l) call-shown
         (record {
           makes = λ answers. carried k (start (shapeOf c l)) block bytes (states-fit .begins c l accepted) room b answers;
           recorded = λ answers. recorded (master (shapeOf c l)) (l .written) (start (shapeOf c l)) answers;
-          met = λ answers. shown-met false (master (shapeOf c l)) (l .written) (transfer.Fit c l) (λ m a g. states-fit .kept c l accepted m a g) (transfer-met (shapeOf c l)) (start (shapeOf c l)) (states-fit .begins c l accepted) answers;
+          met = λ answers. shown-met (transferEnds (c .chip)) (master (shapeOf c l)) (l .written) (transfer.Fit c l) (λ m a g. states-fit .kept c l accepted m a g) (transfer-met (shapeOf c l)) (start (shapeOf c l)) (states-fit .begins c l accepted) answers;
           still-open = λ answers h. still-open k takes t (start (shapeOf c l)) block bytes (states-fit .begins c l accepted) room b answers h;
           stays = λ answers more x h. shown-over (master (shapeOf c l)) (l .written) (start (shapeOf c l)) answers more x h;
           over = λ answers x h. over k (start (shapeOf c l)) block bytes (states-fit .begins c l accepted) room b answers x h;
         })
 
-    pub transfer-runs : Runs false (transferEntry c l u) (transferTakes c l) block bytes (callShown c l)
+    pub transfer-runs : Runs (transferEnds (c .chip)) (transferEntry c l u) (transferTakes c l) block bytes (callShown c l)
     transfer-runs = transfer-runs-with (transferEntry c l u) (transferTakes c l) (transfer-carries c l accepted u) (transfer-takes c l accepted) begin-left
 
 -- a write lends nothing to read
 pub write-runs : (c : master.Call) (written : List ℕ) → refusal c (lentWith [] written 0) ≡ none → (u : Bool) (block : List ℕ) → length block ≡ blockSize → u ≡ false
-    → Runs false (unread (transferEntry c (lentWith [] written 0) u)) (λ b r. transferTakes c (lentWith [] written 0) b []) block [] (callShown c (lentWith [] written 0))
+    → Runs (transferEnds (c .chip)) (unread (transferEntry c (lentWith [] written 0) u)) (λ b r. transferTakes c (lentWith [] written 0) b []) block [] (callShown c (lentWith [] written 0))
 write-runs c written accepted u block size known =
     transfer-runs-with c (lentWith [] written 0) accepted u block [] size known refl (unread (transferEntry c (lentWith [] written 0) u)) (λ b r. transferTakes c (lentWith [] written 0) b [])
     (carries-unread (transfer-carries c (lentWith [] written 0) accepted u)) (λ m r g e. transfer-takes c (lentWith [] written 0) accepted m [] g refl) (begin-left c (lentWith [] written 0) accepted u block [] size known refl)
@@ -166,24 +166,24 @@ module _ (chip : ℕ) (x : slave.Kind) (l : SlaveLent) (accepted : sizeOf x l �
   response-runs-with : (e : Entry) (takes : List ℕ → List ℕ → Bool) → Carries (slaveMachine.slave setting) (slaveCalls.bytesOf x l) (l .room) e (response-carried.imageOf (chipOf chip) x l) (response-carried.Fit (chipOf chip) x l)
       → ((m : slaveMachine.slave setting .State) (r : List ℕ) → response-carried.Fit (chipOf chip) x l m → length r ≡ l .room → takes (response-carried.imageOf (chipOf chip) x l m) r ≡ not (isEnd (slaveMachine.owed setting m)))
       → e .begin block bytes ≡ left (filled (slaveCalls.bytesOf x l) (slaveMachine.owed setting (slaveMachine.start x))) (response-carried.imageOf (chipOf chip) x l (slaveMachine.start x)) bytes
-      → Runs (isRespondToRead x) e takes block bytes (slaveShown (chipOf chip) x l)
+      → Runs (responseEnds (chipOf chip) (isRespondToRead x)) e takes block bytes (slaveShown (chipOf chip) x l)
   response-runs-with e takes k t b =
       runs-as (λ answers. shownFrom (slaveMachine.slave setting) (slaveCalls.bytesOf x l) (slaveMachine.start x) answers) (slaveShown (chipOf chip) x l) (λ answers. sym (accepted-shown (chipOf chip) x l accepted answers))
       (record {
         makes = λ answers. carried k (slaveMachine.start x) block bytes (slaveFits.states-fit .begins setting) room b answers;
         recorded = λ answers. recorded (slaveMachine.slave setting) (slaveCalls.bytesOf x l) (slaveMachine.start x) answers;
-        met = λ answers. shown-met (isRespondToRead x) (slaveMachine.slave setting) (slaveCalls.bytesOf x l) (response-carried.Fit (chipOf chip) x l) (λ m a g. slaveFits.states-fit .kept setting m a g) (response-met setting) (slaveMachine.start x) (slaveFits.states-fit .begins setting) answers;
+        met = λ answers. shown-met (responseEnds (chipOf chip) (isRespondToRead x)) (slaveMachine.slave setting) (slaveCalls.bytesOf x l) (response-carried.Fit (chipOf chip) x l) (λ m a g. slaveFits.states-fit .kept setting m a g) (response-met setting) (slaveMachine.start x) (slaveFits.states-fit .begins setting) answers;
         still-open = λ answers h. still-open k takes t (slaveMachine.start x) block bytes (slaveFits.states-fit .begins setting) room b answers h;
         stays = λ answers more y h. shown-over (slaveMachine.slave setting) (slaveCalls.bytesOf x l) (slaveMachine.start x) answers more y h;
         over = λ answers y h. over k (slaveMachine.start x) block bytes (slaveFits.states-fit .begins setting) room b answers y h;
       })
 
-  pub response-runs : Runs (isRespondToRead x) (responseEntry (chipOf chip) x l chip) (responseTakes x l) block bytes (slaveShown (chipOf chip) x l)
+  pub response-runs : Runs (responseEnds (chipOf chip) (isRespondToRead x)) (responseEntry (chipOf chip) x l chip) (responseTakes x l) block bytes (slaveShown (chipOf chip) x l)
   response-runs = response-runs-with (responseEntry (chipOf chip) x l chip) (responseTakes x l) (response-carries (chipOf chip) x l accepted chip) (response-takes (chipOf chip) x l accepted) response-left
 
 -- listening and a reply lend nothing to read
 pub unread-runs : (chip : ℕ) (x : slave.Kind) (reply : List ℕ) → sizeOf x (slaveLent.lentWith reply 0) ≤ 65535 → (block : List ℕ) → length block ≡ blockSize → ltb 3 chip ≡ false
-    → Runs (isRespondToRead x) (unread (responseEntry (chipOf chip) x (slaveLent.lentWith reply 0) chip)) (λ b r. responseTakes x (slaveLent.lentWith reply 0) b []) block [] (slaveShown (chipOf chip) x (slaveLent.lentWith reply 0))
+    → Runs (responseEnds (chipOf chip) (isRespondToRead x)) (unread (responseEntry (chipOf chip) x (slaveLent.lentWith reply 0) chip)) (λ b r. responseTakes x (slaveLent.lentWith reply 0) b []) block [] (slaveShown (chipOf chip) x (slaveLent.lentWith reply 0))
 unread-runs chip x reply accepted block size known =
     response-runs-with chip x (slaveLent.lentWith reply 0) accepted block [] size known refl (unread (responseEntry (chipOf chip) x (slaveLent.lentWith reply 0) chip))
     (λ b r. responseTakes x (slaveLent.lentWith reply 0) b []) (carries-unread (response-carries (chipOf chip) x (slaveLent.lentWith reply 0) accepted chip))
@@ -195,7 +195,7 @@ abbrev pub shownTimed : ℕ → Timed → List ℕ → Shown
 shownTimed chip (timed.At t) answers = shownFrom initMachine.initMachine [] (initMachine.started (chipOf chip) t) answers
 shownTimed chip (timed.Refused e) answers = noMore (some (failed e))
 
-init-stage-met : (st : timingStage.Stage) (s : timingState.State) → MetNeed false (initMachine.owedAt st s)
+init-stage-met : (st : timingStage.Stage) (s : timingState.State) → MetNeed initEnds (initMachine.owedAt st s)
 init-stage-met timingStages.DisableRead s = tt
 init-stage-met timingStages.DisableWrite s = tt
 init-stage-met timingStages.ResetRead s = tt
@@ -210,7 +210,7 @@ init-stage-met timingStages.EnableRead s = tt
 init-stage-met timingStages.EnableWrite s = tt
 init-stage-met timingStages.Ended s = refl
 
-pub init-met : (s : timingState.State) → MetNeed false (initMachine.owed s)
+pub init-met : (s : timingState.State) → MetNeed initEnds (initMachine.owed s)
 unfolding initMachine.owed
 init-met s = init-stage-met (s .stage) s
 
@@ -220,25 +220,25 @@ module _ (chip input frequency duty : ℕ) (block : List ℕ) (size : length blo
   unfolding cInit.initBegin beginOn
   init-begun t q = rw (eq-eqb (length block) blockSize size, known, q)
 
-  init-runs-at : (x : Timed) → timing (chipOf chip) input frequency (cInit.dutyOf duty) ≡ x → timedRefusal x ≡ none → Runs false (initEntry chip input frequency duty) initTakes block [] (shownTimed chip x)
+  init-runs-at : (x : Timed) → timing (chipOf chip) input frequency (cInit.dutyOf duty) ≡ x → timedRefusal x ≡ none → Runs initEnds (initEntry chip input frequency duty) initTakes block [] (shownTimed chip x)
   init-runs-at (timed.Refused e) q r = let z : _≡_ {A = ℕ} 0 1 = cc in absurd (omega arith)
   init-runs-at (timed.At t) q r =
       let fit = settled-range (chipOf chip) input frequency (cInit.dutyOf duty) t q in
       record {
         makes = λ answers. carried (init-carries chip input frequency duty) (initMachine.started (chipOf chip) t) block [] fit refl (init-begun t q) answers;
         recorded = λ answers. recorded initMachine.initMachine [] (initMachine.started (chipOf chip) t) answers;
-        met = λ answers. shown-met false initMachine.initMachine [] InitFit (λ s a g. ap initCall.inRange (settings-stay s a) ∙ g) (λ s g. init-met s) (initMachine.started (chipOf chip) t) fit answers;
+        met = λ answers. shown-met initEnds initMachine.initMachine [] InitFit (λ s a g. ap initCall.inRange (settings-stay s a) ∙ g) (λ s g. init-met s) (initMachine.started (chipOf chip) t) fit answers;
         still-open = λ answers h. still-open (init-carries chip input frequency duty) initTakes (λ s r g e. init-takes s r g) (initMachine.started (chipOf chip) t) block [] fit refl (init-begun t q) answers h;
         stays = λ answers more x h. shown-over initMachine.initMachine [] (initMachine.started (chipOf chip) t) answers more x h;
         over = λ answers x h. over (init-carries chip input frequency duty) (initMachine.started (chipOf chip) t) block [] fit refl (init-begun t q) answers x h;
       }
 
-  pub init-runs : timedRefusal (timing (chipOf chip) input frequency (cInit.dutyOf duty)) ≡ none → Runs false (initEntry chip input frequency duty) initTakes block [] (shownTimed chip (timing (chipOf chip) input frequency (cInit.dutyOf duty)))
+  pub init-runs : timedRefusal (timing (chipOf chip) input frequency (cInit.dutyOf duty)) ≡ none → Runs initEnds (initEntry chip input frequency duty) initTakes block [] (shownTimed chip (timing (chipOf chip) input frequency (cInit.dutyOf duty)))
   init-runs r = init-runs-at (timing (chipOf chip) input frequency (cInit.dutyOf duty)) refl r
 
 -- ---- init_slave
 
-init-slave-stage-met : (st : InitStage) (s : InitState) → MetNeed false (initSlaveMachine.owedAt st s)
+init-slave-stage-met : (st : InitStage) (s : InitState) → MetNeed initEnds (initSlaveMachine.owedAt st s)
 init-slave-stage-met initStage.DisableRead s = tt
 init-slave-stage-met initStage.DisableWrite s = tt
 init-slave-stage-met initStage.BufferRead s = tt
@@ -249,7 +249,7 @@ init-slave-stage-met initStage.EnableRead s = tt
 init-slave-stage-met initStage.EnableWrite s = tt
 init-slave-stage-met initStage.Ended s = refl
 
-pub init-slave-met : (s : InitState) → MetNeed false (initSlaveMachine.owed s)
+pub init-slave-met : (s : InitState) → MetNeed initEnds (initSlaveMachine.owed s)
 unfolding initSlaveMachine.owed
 init-slave-met s = init-slave-stage-met (s .stage) s
 
@@ -272,13 +272,13 @@ module _ (ten address has second general stretching : ℕ) (block : List ℕ) (s
     unfolding cInitSlave.initSlaveBegin beginOn
     slave-begun = rw (eq-eqb (length block) blockSize size, known, accepted)
 
-    pub init-slave-runs : Runs false (initSlaveEntry ten address has second general stretching) initSlaveTakes block [] (initShown config)
+    pub init-slave-runs : Runs initEnds (initSlaveEntry ten address has second general stretching) initSlaveTakes block [] (initShown config)
     init-slave-runs =
         runs-as (λ answers. shownFrom initSlaveMachine.initMachine [] (initSlaveMachine.started config) answers) (initShown config) (init-shown config accepted)
         (record {
           makes = λ answers. carried (init-slave-carries ten address has second general stretching) (initSlaveMachine.started config) block [] accepted refl slave-begun answers;
           recorded = λ answers. recorded initSlaveMachine.initMachine [] (initSlaveMachine.started config) answers;
-          met = λ answers. shown-met false initSlaveMachine.initMachine [] InitSlaveFit (λ s a g. ap initSlaveMachine.initRefusal (config-stays s a) ∙ g) (λ s g. init-slave-met s) (initSlaveMachine.started config) accepted answers;
+          met = λ answers. shown-met initEnds initSlaveMachine.initMachine [] InitSlaveFit (λ s a g. ap initSlaveMachine.initRefusal (config-stays s a) ∙ g) (λ s g. init-slave-met s) (initSlaveMachine.started config) accepted answers;
           still-open = λ answers h. still-open (init-slave-carries ten address has second general stretching) initSlaveTakes (λ s r g e. init-slave-takes s r g) (initSlaveMachine.started config) block [] accepted refl slave-begun answers h;
           stays = λ answers more x h. shown-over initSlaveMachine.initMachine [] (initSlaveMachine.started config) answers more x h;
           over = λ answers x h. over (init-slave-carries ten address has second general stretching) (initSlaveMachine.started config) block [] accepted refl slave-begun answers x h;

@@ -20,7 +20,7 @@ use Rattle.access.specs.Record.{Shown, noMore, shownOf, DifferInPayload, Same, 
 use Rattle.access.specs.Machine.{shownFrom}
 use Rattle.access.proofs.NumberLaws.{number-injective}
 use Rattle.alike.specs.Like.{forgetEnd, forgetting}
-use Rattle.errors.proofs.CheckLaws.{others-stay, second-forgotten}
+use Rattle.errors.proofs.CheckLaws.{others-stay, second-forgotten, flags-forgotten}
 use Rattle.operations.specs.Operations.{operationsOf}
 use Rattle.operations.proofs.SumLaws.{written-runs}
 use Rattle.block.specs.Bytes32.{blockSize}
@@ -59,7 +59,7 @@ use Rattle.ch32_i2c.specs.Manual.{Keeps}
 use Rattle.ch32_i2c.specs.Init as cInit
 use Rattle.ch32_i2c.specs.Transfer.{callOf, masterBegin}
 use Rattle.ch32_i2c.specs.InitSlave as cInitSlave
-use Rattle.ch32_i2c.specs.Demands.{Call, init, transaction, writeRead, write, read, initSlave, listen, respondToWrite, respondToRead, entryOf, Reads, unknown, ownRefusal, refusalOf, Accepted, timedRefusal, rust, ours, endAsTheRust, timedShown, theRusts, NoneAdded, returnsTwo, IsMet, takes, nothingToDo, Over, Demand1, Demand2, Demand3, SeenAlike, SameRuns, transactions, writeReads, writes, reads, bytesOfRun, writtenRuns, oursAfter, recordAfter, endAfter, struckAfter, Records, RecordsRust, runsShown, wordsOf, OfDemand2, RepliesEnd, SeenSame}
+use Rattle.ch32_i2c.specs.Demands.{Call, init, transaction, writeRead, write, read, initSlave, listen, respondToWrite, respondToRead, entryOf, Reads, unknown, ownRefusal, refusalOf, Accepted, timedRefusal, rust, ours, endAsTheRust, timedShown, theRusts, NoneAdded, canEnd, IsMet, takes, nothingToDo, Over, Demand1, Demand2, Demand3, SeenAlike, SameRuns, transactions, writeReads, writes, reads, bytesOfRun, writtenRuns, oursAfter, recordAfter, endAfter, struckAfter, Records, RecordsRust, runsShown, wordsOf, OfDemand2, RepliesEnd, SeenSame}
 use Rattle.ch32_i2c.proofs.Recorded.{record-is, end-is, struck-same}
 use Rattle.ch32_i2c.proofs.PayloadLaws.{differ-same, Answered, answered, answers-same}
 use Rattle.ch32_i2c.proofs.CallsRun.{parts, Runs, begin-left, response-left, transfer-runs, write-runs, response-runs, unread-runs, init-runs, init-slave-runs, config-unreserved, shownTimed, small}
@@ -90,7 +90,7 @@ at-nothing : (c : Call) (P : List ℕ → Type 0) (block bytes : List ℕ) → b
 at-nothing c P block bytes e f a = subst (λ (r : List ℕ). Accepted c block r → P r) (sym e) f a
 
 abbrev Run : Call → List ℕ → List ℕ → Type 0
-Run c block bytes = Runs (returnsTwo c) (entryOf c) (takes c) block bytes (shownBy c (length bytes))
+Run c block bytes = Runs (canEnd c) (entryOf c) (takes c) block bytes (shownBy c (length bytes))
 
 abbrev Begun : Call → List ℕ → List ℕ → Type 0
 Begun c block bytes = Begins (entryOf c) (takes c) (nothingToDo c) block bytes
@@ -401,7 +401,7 @@ demand-1 =
       accepts = begins;
       goes = goes;
       stops = stops;
-      ends = λ c block bytes k a answers. subst (IsMet (returnsTwo c)) (sym (seen-shown c block bytes k a answers .end-is)) (runs c block bytes k a .met answers);
+      ends = λ c block bytes k a answers. subst (IsMet (canEnd c)) (sym (seen-shown c block bytes k a answers .end-is)) (runs c block bytes k a .met answers);
       still-open = λ c block bytes k a answers q. runs c block bytes k a .still-open answers (sym (seen-shown c block bytes k a answers .end-is) ∙ q);
       over = over;
     }
@@ -471,6 +471,7 @@ demand-2 =
       rusts = rusts;
       counts = slaveIs.counts-as-the-rust;
       second = second;
+      flags = flags-forgotten;
       others = others;
       returns = returns;
       refused = rust-refused;

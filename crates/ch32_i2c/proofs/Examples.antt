@@ -11,18 +11,19 @@ use Rattle.registers.specs.Word.{hasBit, putBit, fieldOf, putField}
 use Rattle.registers.specs.Flags.{errorFlags, clearError}
 use Rattle.registers.specs.Addresses.{addressWord}
 use Rattle.access.specs.Program.{checkTimeout, late}
-use Rattle.access.specs.declared.ending.Error.the-variants.{InvalidAddress, ReservedAddress}
+use Rattle.access.specs.declared.ending.Ending.the-variants.{Failed}
+use Rattle.access.specs.declared.ending.Error.the-variants.{Arbitration, InvalidAddress, ReservedAddress}
 use Rattle.access.specs.declared.next.Next.{Next}
 use Rattle.access.specs.declared.next.Next.the-variants as next
 use Rattle.access.specs.Numbers.{nextNumber}
-use Rattle.access.specs.Endings.{done, returned, returnedBoth, failed}
+use Rattle.access.specs.Endings.{flagged, done, returned, returnedBoth, failed}
 use Rattle.access.specs.Record.{Shown, noMore, Same}
 use Rattle.operations.specs.Operations.{operationsOf, shaped}
 use Rattle.operations.specs.Runs.{runsOf, runsFrom}
 use Rattle.operations.specs.Search.{faultFrom}
 use Rattle.errors.specs.Classes.{errorOf}
 use Rattle.errors.specs.Check.{check-errors}
-use Rattle.master.specs.Calls.{refusal, oursWith}
+use Rattle.master.specs.Calls.{refusal, rustWith, oursWith}
 use Rattle.master.specs.Rust as rust
 use Rattle.master.specs.Ours as ours
 use Rattle.master.specs.Joined.{joined, joinW}
@@ -39,7 +40,7 @@ use Rattle.calls.specs.InitSlave.{initSlaveHeld}
 use Rattle.timing.specs.Rust.{timing}
 use Rattle.ch32_i2c.specs.InitSlave.{configOf}
 use Rattle.ch32_i2c.specs.Fed.{Seen, endIn, recordIn, DifferAtPayload, payloadIn}
-use Rattle.ch32_i2c.specs.Demands.{Call, transaction, listen, respondToWrite, respondToRead, Accepted, Over, Commanded, Replied, endAfter, SameRuns, transactions, RepliesEnd, SeenAlike, SeenSame}
+use Rattle.ch32_i2c.specs.Demands.{Call, transaction, write, listen, respondToWrite, respondToRead, Accepted, Over, Commanded, Replied, canEnd, IsMet, endAfter, SameRuns, transactions, RepliesEnd, SeenAlike, SeenSame}
 use Rattle.ch32_i2c.specs.Demands as demands
 use Rattle.ch32_i2c.proofs.Demands.{demand-1, demand-2, demand-3}
 
@@ -132,6 +133,37 @@ reply-counted = demand-1 .replied 0 (7 ∷ 8 ∷ 9 ∷ []) zeros refl refusing (
 -- in C: bit 32
 reply-number : nextNumber (next.End (returnedBoth 0 1)) ≡ 0x1_0000_0000
 reply-number = refl
+
+-- ---- a byte of a write whose status word shows ARLO and OVR: both were cleared, and the end tells both
+
+abbrev disturbed : Call
+disturbed = write 0 0x21 3 (7 ∷ [])
+
+abbrev two-flags : List ℕ
+two-flags = 0x0a00 ∷ 0 ∷ 0 ∷ 0 ∷ 0 ∷ 0 ∷ []
+
+disturbed-accepted : Accepted disturbed zeros []
+unfolding refusal shaped
+disturbed-accepted = refl
+
+disturbed-ours : demands.ours 7 disturbed 0 two-flags .end ≡ some (Failed (flagged Arbitration 0x0a00))
+unfolding oursWith rust.validate-address rust.write-bytes rust.send-byte rust.wait-flag ours.check-and-clear-error-flags check-errors errorOf rust.abort-transfer rust.finish-transfer rust.generate-stop hasBit putBit fieldOf putField errorFlags clearError checkTimeout late
+disturbed-ours = refl
+
+disturbed-ends : endAfter disturbed zeros [] two-flags ≡ some (Failed (flagged Arbitration 0x0a00))
+disturbed-ends = demand-2 .records disturbed zeros [] refl disturbed-accepted 7 two-flags (omega arith) .end-is ∙ disturbed-ours
+
+disturbed-of-the-rust : demands.rust 7 disturbed 0 two-flags .end ≡ some (failed Arbitration)
+unfolding rustWith rust.validate-address rust.write-bytes rust.send-byte rust.wait-flag rust.check-and-clear-error-flags rust.abort-transfer rust.finish-transfer rust.generate-stop hasBit putBit fieldOf putField errorFlags clearError checkTimeout late
+disturbed-of-the-rust = refl
+
+-- the flags fit: 2 with these two, on this chip
+disturbed-fits : canEnd disturbed (Failed (flagged Arbitration 0x0a00)) ≡ true
+disturbed-fits = subst (IsMet (canEnd disturbed)) disturbed-ends (demand-1 .ends disturbed zeros [] refl disturbed-accepted two-flags)
+
+-- in C: bits 48 to 63
+disturbed-number : nextNumber (next.End (Failed (flagged Arbitration 0x0a00))) ≡ 0x0a00_0000_0000_0200
+disturbed-number = refl
 
 -- ---- payloads that agree: a transaction divided otherwise, of the same bytes; a receive that gets the same bytes
 

@@ -36,13 +36,14 @@ use Rattle.access.specs.declared.ending.Error.{Error}
 use Rattle.access.specs.declared.ending.Error.the-variants.{InvalidState, InvalidArgument}
 use Rattle.access.specs.declared.next.Next.{Next}
 use Rattle.access.specs.declared.next.Next.the-variants as next
-use Rattle.access.specs.Endings.{errorNumber, done, returned, returnedBoth, failed, isMet}
+use Rattle.access.specs.Endings.{errorNumber, done, returned, returnedBoth, failed}
 use Rattle.access.specs.Machine.{isEnd}
 use Rattle.access.specs.Numbers.{nextNumber, HoldsWords}
 use Rattle.access.specs.Program as program
 use Rattle.access.specs.Record.{Shown, noMore, shownOf, Same, EndsAlike}
 use Rattle.alike.specs.Like.{forgetEnd, forgetting}
-use Rattle.errors.specs.AsTheRust.{asTheRust}
+use Rattle.errors.specs.Met.{isMet}
+use Rattle.errors.specs.AsTheRust.{asTheRust, FlagsForgotten}
 use Rattle.operations.specs.Operations.{operationsOf}
 use Rattle.operations.specs.Runs.{isEmpty}
 use Rattle.block.specs.Bytes32.{blockSize}
@@ -304,23 +305,36 @@ pub record Over (c : Call) (block bytes answers more : List ℕ) : Type 0 where
   pub end-stays : endAfter c block bytes (answers ++ more) ≡ endAfter c block bytes answers
   pub left-stays : (a : ℕ) → leftAfter c block bytes (answers ++ (a ∷ [])) ≡ refusedWith InvalidState (leftAfter c block bytes answers .block) (leftAfter c block bytes answers .read)
 
--- a reply alone returns two numbers
-abbrev pub returnsTwo : Call → Bool
-returnsTwo (init chip input frequency duty) = false
-returnsTwo (transaction chip address list written) = false
-returnsTwo (writeRead chip address written) = false
-returnsTwo (write chip address option written) = false
-returnsTwo (read chip address option) = false
-returnsTwo (initSlave ten address has second general stretching) = false
-returnsTwo (listen chip) = false
-returnsTwo (respondToWrite chip) = false
-returnsTwo (respondToRead chip reply) = true
+-- the ends of an accepted call: 0, where the second number is 0 unless the call returns two; or an error that the hardware can give it
+abbrev pub endsBy : Bool → (Failure → Bool) → Ending → Bool
+endsBy two fails (Done o) = two || eqb (o .second) 0
+endsBy two fails (Failed f) = fails f
 
--- an end that is none of the refusals: 0, where the second number is 0 unless there may be two; or an error that the hardware gave, 1 to 6
-abbrev pub IsMet : Bool → Option Ending → Type 0
-IsMet two none = Unit {0}
-IsMet two (some (Done o)) = two || eqb (o .second) 0 ≡ true
-IsMet two (some (Failed f)) = isMet (f .error) ≡ true
+-- errors are 1 to 6, with flags in which a check finds this error on the chip, as a master or a slave; or without flags where no check decided: a
+-- late clock, and a master's lost START (`isMet`, errors/specs/Met.antt). `init` and `init_slave` meet none, and a reply alone returns two numbers
+abbrev pub initEnds : Ending → Bool
+initEnds = endsBy false (λ f. false)
+
+abbrev pub transferEnds : Chip → Ending → Bool
+transferEnds chip = endsBy false (isMet chip true)
+
+abbrev pub responseEnds : Chip → Bool → Ending → Bool
+responseEnds chip two = endsBy two (isMet chip false)
+
+abbrev pub canEnd : Call → Ending → Bool
+canEnd (init chip input frequency duty) = initEnds
+canEnd (transaction chip address list written) = transferEnds (chipOf chip)
+canEnd (writeRead chip address written) = transferEnds (chipOf chip)
+canEnd (write chip address option written) = transferEnds (chipOf chip)
+canEnd (read chip address option) = transferEnds (chipOf chip)
+canEnd (initSlave ten address has second general stretching) = initEnds
+canEnd (listen chip) = responseEnds (chipOf chip) false
+canEnd (respondToWrite chip) = responseEnds (chipOf chip) false
+canEnd (respondToRead chip reply) = responseEnds (chipOf chip) true
+
+abbrev pub IsMet : (Ending → Bool) → Option Ending → Type 0
+IsMet can none = Unit {0}
+IsMet can (some e) = can e ≡ true
 
 -- a slave's address in its seven or ten bits
 abbrev pub InBits : SlaveAddress → Type 0
@@ -352,8 +366,8 @@ pub record Demand1 : Type 0 where
   -- an ended one
   pub accepts : (c : Call) (block bytes : List ℕ) → Reads c bytes → Accepted c block bytes → Begins (entryOf c) (takes c) (nothingToDo c) block bytes
   -- after each answer there is an access, or the end with 0 or 1 to 6: a call that was accepted is refused at no step before its end. Only a
-  -- reply's end has a second number
-  pub ends : (c : Call) (block bytes : List ℕ) → Reads c bytes → Accepted c block bytes → (answers : List ℕ) → IsMet (returnsTwo c) (endAfter c block bytes answers)
+  -- reply's end has a second number, and an error's flags fit it
+  pub ends : (c : Call) (block bytes : List ℕ) → Reads c bytes → Accepted c block bytes → (answers : List ℕ) → IsMet (canEnd c) (endAfter c block bytes answers)
   -- while there is no end, a step takes the block and the bytes that were left
   pub still-open : (c : Call) (block bytes : List ℕ) → Reads c bytes → Accepted c block bytes → (answers : List ℕ) → endAfter c block bytes answers ≡ none
       → takes c (leftAfter c block bytes answers .block) (leftAfter c block bytes answers .read) ≡ true
@@ -418,6 +432,8 @@ pub record Demand2 : Type 0 where
   -- it lacks a reply's second count, and of the first nothing is forgotten: without the second a reply IS the Rust's program
   pub counts : CountsAsTheRust
   pub second : (chip : ℕ) (reply : List ℕ) (v x : ℕ) → endAsTheRust (respondToRead chip reply) (returnedBoth v x) ≡ returned v
+  -- it lacks the flags of an error, and of the error nothing is forgotten
+  pub flags : FlagsForgotten
   -- nothing is forgotten of any other end that no error check decided
   pub others : (c : Call) (e : Error) → endAsTheRust c (failed e) ≡ failed e
   pub returns : (c : Call) (v : ℕ) → endAsTheRust c (returned v) ≡ returned v

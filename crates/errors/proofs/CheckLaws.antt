@@ -6,20 +6,25 @@ use Prim.Native.Nat.{ℕ}
 use Rattle.registers.specs.declared.chip.Chip.{Chip}
 use Rattle.registers.specs.Bits.{BERR, ARLO, AF, OVR, PECERR, TIMEOUT}
 use Rattle.registers.specs.Word.{hasBit}
+use Rattle.registers.specs.Flags.{errorFlags}
 use Rattle.access.specs.declared.ending.Error.{Error}
 use Rattle.access.specs.declared.ending.Error.the-variants.{Bus, Arbitration, Nack, Timeout, Crc, Overrun}
 use Rattle.access.specs.declared.ending.Failure.{Failure}
-use Rattle.access.specs.Endings.{failureOf}
+use Rattle.access.specs.Endings.{flagged, failureOf}
 use Rattle.access.specs.Program.{Program}
 use Rattle.alike.specs.Like.{Like, Handles}
 use Rattle.alike.proofs.LikeLaws.{cases}
 use Rattle.errors.specs.Classes.{errorOf, decided}
-use Rattle.errors.specs.AsTheRust.{asTheRust, SecondForgotten, OthersStay, rustChain}
+use Rattle.errors.specs.AsTheRust.{asTheRust, SecondForgotten, FlagsForgotten, OthersStay, rustChain}
 use Rattle.errors.proofs.ClassLaws.{by-class}
 
 pub second-forgotten : SecondForgotten
 unfolding asTheRust
 second-forgotten chip nack v x = refl
+
+pub flags-forgotten : FlagsForgotten
+unfolding asTheRust
+flags-forgotten chip nack e w = refl
 
 pub others-stay : OthersStay
 unfolding asTheRust
@@ -37,5 +42,5 @@ chain-alike chip nack w {h} {h′} {p} {p′} H K =
     (cases (nack && hasBit AF w) (same Nack)
     (cases (chip .ch32v4 && hasBit BERR w) (same Bus) K))))))
   where
-    same : (e : Error) → Like (asTheRust chip nack) (h (failureOf e)) (h′ (failureOf e))
-    same e = H .after (failureOf e) (failureOf e) (others-stay .failures chip nack e)
+    same : (e : Error) → Like (asTheRust chip nack) (h (flagged e (errorFlags w))) (h′ (failureOf e))
+    same e = H .after (flagged e (errorFlags w)) (failureOf e) (flags-forgotten chip nack e (errorFlags w))

@@ -9,36 +9,41 @@ use Rattle.registers.specs.Bits.{BERR, ARLO, AF, OVR, PECERR, TIMEOUT}
 use Rattle.registers.specs.Word.{hasBit}
 use Rattle.registers.specs.Flags.{errorFlags}
 use Rattle.registers.proofs.FlagLaws.{clear-flags}
+use Rattle.access.specs.declared.ending.Error.{Error}
 use Rattle.access.specs.declared.ending.Error.the-variants.{Bus, Arbitration, Nack, Timeout, Crc, Overrun}
 use Rattle.access.specs.declared.ending.Failure.{Failure}
-use Rattle.access.specs.Endings.{failureOf, isMet}
+use Rattle.access.specs.Endings.{flagged}
 use Rattle.errors.specs.declared.Checked.{Checked}
 use Rattle.errors.specs.declared.Checked.the-variants.{Fine, Failed}
 use Rattle.errors.specs.Classes.{class, only, firstOf, errorOf, decided}
+
+-- an error with the flags of the word
+abbrev found : Error → ℕ → Failure
+found e w = flagged e (errorFlags w)
 
 decided-if {ℓ} : {X : Type ℓ} (t : Bool) (f : Failure) (c : Checked) (h : Failure → X) (p : X) → decided (cond t (Failed f) c) h p ≡ cond t (h f) (decided c h p)
 decided-if true f c h p = refl
 decided-if false f c h p = refl
 
--- the Rust's chain of ifs goes by the class
+-- a chain of ifs as the Rust's goes by the class
 pub by-class {ℓ} : {X : Type ℓ} (chip : Chip) (nack : Bool) (w : ℕ) (h : Failure → X) (p : X)
-    → cond (hasBit ARLO w) (h (failureOf Arbitration))
-    (cond (chip .«i2c_v3» && hasBit TIMEOUT w) (h (failureOf Timeout))
-    (cond (hasBit PECERR w) (h (failureOf Crc))
-    (cond (hasBit OVR w) (h (failureOf Overrun))
-    (cond (nack && hasBit AF w) (h (failureOf Nack))
-    (cond (chip .ch32v4 && hasBit BERR w) (h (failureOf Bus)) p)))))
+    → cond (hasBit ARLO w) (h (found Arbitration w))
+    (cond (chip .«i2c_v3» && hasBit TIMEOUT w) (h (found Timeout w))
+    (cond (hasBit PECERR w) (h (found Crc w))
+    (cond (hasBit OVR w) (h (found Overrun w))
+    (cond (nack && hasBit AF w) (h (found Nack w))
+    (cond (chip .ch32v4 && hasBit BERR w) (h (found Bus w)) p)))))
     ≡ decided (errorOf chip nack w) h p
 unfolding errorOf
 by-class chip nack w h p = go (chip .«i2c_v3») nack (chip .ch32v4)
   where
     go : (v3 n v4 : Bool)
-        → cond (hasBit ARLO w) (h (failureOf Arbitration))
-        (cond (v3 && hasBit TIMEOUT w) (h (failureOf Timeout))
-        (cond (hasBit PECERR w) (h (failureOf Crc))
-        (cond (hasBit OVR w) (h (failureOf Overrun))
-        (cond (n && hasBit AF w) (h (failureOf Nack))
-        (cond (v4 && hasBit BERR w) (h (failureOf Bus)) p)))))
+        → cond (hasBit ARLO w) (h (found Arbitration w))
+        (cond (v3 && hasBit TIMEOUT w) (h (found Timeout w))
+        (cond (hasBit PECERR w) (h (found Crc w))
+        (cond (hasBit OVR w) (h (found Overrun w))
+        (cond (n && hasBit AF w) (h (found Nack w))
+        (cond (v4 && hasBit BERR w) (h (found Bus w)) p)))))
         ≡ decided
         (firstOf
         (class ARLO Arbitration ∷ only v3 (class TIMEOUT Timeout)
@@ -56,12 +61,12 @@ by-class chip nack w h p = go (chip .«i2c_v3») nack (chip .ch32v4)
 
 -- the same of the class itself
 pub as-ifs : (chip : Chip) (nack : Bool) (w : ℕ)
-    → cond (hasBit ARLO w) (Failed (failureOf Arbitration))
-    (cond (chip .«i2c_v3» && hasBit TIMEOUT w) (Failed (failureOf Timeout))
-    (cond (hasBit PECERR w) (Failed (failureOf Crc))
-    (cond (hasBit OVR w) (Failed (failureOf Overrun))
-    (cond (nack && hasBit AF w) (Failed (failureOf Nack))
-    (cond (chip .ch32v4 && hasBit BERR w) (Failed (failureOf Bus)) Fine)))))
+    → cond (hasBit ARLO w) (Failed (found Arbitration w))
+    (cond (chip .«i2c_v3» && hasBit TIMEOUT w) (Failed (found Timeout w))
+    (cond (hasBit PECERR w) (Failed (found Crc w))
+    (cond (hasBit OVR w) (Failed (found Overrun w))
+    (cond (nack && hasBit AF w) (Failed (found Nack w))
+    (cond (chip .ch32v4 && hasBit BERR w) (Failed (found Bus w)) Fine)))))
     ≡ errorOf chip nack w
 as-ifs chip nack w = by-class chip nack w Failed Fine ∙ same (errorOf chip nack w)
   where
@@ -77,7 +82,7 @@ no-flags chip nack w z =
     ∙ rw (f .arlo, f .timeout, f .pecerr, f .ovr, f .af, f .berr)
     (rest (chip .«i2c_v3») nack (chip .ch32v4))
   where
-    rest : (a b c : Bool) → cond (a && false) (Failed (failureOf Timeout)) (cond (b && false) (Failed (failureOf Nack)) (cond (c && false) (Failed (failureOf Bus)) Fine)) ≡ Fine
+    rest : (a b c : Bool) → cond (a && false) (Failed (found Timeout w)) (cond (b && false) (Failed (found Nack w)) (cond (c && false) (Failed (found Bus w)) Fine)) ≡ Fine
     rest true true true = refl
     rest true true false = refl
     rest true false true = refl
@@ -86,18 +91,3 @@ no-flags chip nack w z =
     rest false true false = refl
     rest false false true = refl
     rest false false false = refl
-
--- an error of a status word is one of 1 to 6
-either : (b : Bool) {A B : Type 0} → A → B → cond b A B
-either true x y = x
-either false x y = y
-
-pub class-met : (chip : Chip) (nack : Bool) (w : ℕ) → decided (errorOf chip nack w) (λ f. isMet (f .error) ≡ true) (Unit {0})
-class-met chip nack w =
-    subst (λ (T : Type 0). T) (by-class chip nack w (λ f. isMet (f .error) ≡ true) (Unit {0}))
-    (either (hasBit ARLO w) refl
-    (either (chip .«i2c_v3» && hasBit TIMEOUT w) refl
-    (either (hasBit PECERR w) refl
-    (either (hasBit OVR w) refl
-    (either (nack && hasBit AF w) refl
-    (either (chip .ch32v4 && hasBit BERR w) refl tt))))))

@@ -1,3 +1,4 @@
 pub mod ClassLaws
+pub mod MetLaws
 pub mod CheckLaws
 pub mod Examples

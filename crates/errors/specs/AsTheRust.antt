@@ -1,4 +1,5 @@
--- Our end as the Rust's: what the Rust lacks is forgotten. That is the second number of an end with 0, a reply's second count.
+-- Our end as the Rust's: what the Rust lacks is forgotten. That is the second number of an end with 0, a reply's second count, and the flags
+-- of an error.
 use mathlib.Core.Path.{_≡_}
 use mathlib.Core.Bool.{Bool, cond, _&&_}
 use Prim.Native.Nat.{ℕ}
@@ -10,16 +11,19 @@ use Rattle.access.specs.declared.ending.Ending.the-variants.{Done, Failed}
 use Rattle.access.specs.declared.ending.Error.{Error}
 use Rattle.access.specs.declared.ending.Error.the-variants.{Bus, Arbitration, Nack, Timeout, Crc, Overrun}
 use Rattle.access.specs.declared.ending.Failure.{Failure}
-use Rattle.access.specs.Endings.{failureOf, returned, returnedBoth, failed}
+use Rattle.access.specs.Endings.{flagged, failureOf, returned, returnedBoth, failed}
 
 -- for a chip, and a master (`nack`) or a slave
 unfoldable pub asTheRust : Chip → Bool → Ending → Ending
 asTheRust chip nack (Done o) = returned (o .value)
-asTheRust chip nack (Failed f) = Failed f
+asTheRust chip nack (Failed f) = failed (f .error)
 
 -- what is forgotten
 abbrev pub SecondForgotten : Type 0
 SecondForgotten = (chip : Chip) (nack : Bool) (v x : ℕ) → asTheRust chip nack (returnedBoth v x) ≡ returned v
+
+abbrev pub FlagsForgotten : Type 0
+FlagsForgotten = (chip : Chip) (nack : Bool) (e : Error) (w : ℕ) → asTheRust chip nack (Failed (flagged e w)) ≡ failed e
 
 -- all else that no error check decided stays as it is: what else is returned, a late clock, a lost START, a refusal
 pub record OthersStay : Type 0 where

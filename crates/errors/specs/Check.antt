@@ -1,4 +1,5 @@
--- Our error check, for master and slave: all error flags of a status word are cleared, and the first of the chip's list decides.
+-- Our error check, for master and slave: all error flags of a status word are cleared, the first of the chip's list decides, and the flags are
+-- reported with its error.
 use mathlib.Core.Bool.{Bool, not}
 use Prim.Native.Nat.{ℕ}
 use lib.Dec.{eqb}

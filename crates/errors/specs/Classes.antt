@@ -5,10 +5,11 @@ use mathlib.Core.List.{List, [], _∷_, _++_}
 use Rattle.registers.specs.declared.chip.Chip.{Chip}
 use Rattle.registers.specs.Bits.{BERR, ARLO, AF, OVR, PECERR, TIMEOUT}
 use Rattle.registers.specs.Word.{hasBit}
+use Rattle.registers.specs.Flags.{errorFlags}
 use Rattle.access.specs.declared.ending.Error.{Error}
 use Rattle.access.specs.declared.ending.Error.the-variants.{Bus, Arbitration, Nack, Timeout, Crc, Overrun}
 use Rattle.access.specs.declared.ending.Failure.{Failure}
-use Rattle.access.specs.Endings.{failureOf}
+use Rattle.access.specs.Endings.{flagged}
 use Rattle.errors.specs.declared.Checked.{Checked}
 use Rattle.errors.specs.declared.Checked.the-variants.{Fine, Failed}
 
@@ -30,10 +31,10 @@ classes chip nack =
     ++ class PECERR Crc ∷ class OVR Overrun ∷ only nack (class AF Nack)
     ++ only (chip .ch32v4) (class BERR Bus)
 
--- the first flag that is set
+-- the first flag that is set, and with its error all error flags of the word
 abbrev pub firstOf : List Class → ℕ → Checked
 firstOf [] w = Fine
-firstOf (c ∷ cs) w = cond (hasBit (c .flag) w) (Failed (failureOf (c .error))) (firstOf cs w)
+firstOf (c ∷ cs) w = cond (hasBit (c .flag) w) (Failed (flagged (c .error) (errorFlags w))) (firstOf cs w)
 
 unfoldable pub errorOf : Chip → Bool → ℕ → Checked
 errorOf chip nack w = firstOf (classes chip nack) w

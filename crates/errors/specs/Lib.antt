@@ -1,4 +1,5 @@
 pub mod Classes
 pub mod Check
+pub mod Met
 pub mod AsTheRust
 pub mod Edges

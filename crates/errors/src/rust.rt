@@ -5,12 +5,15 @@ use access::Ending;
 use access::ending;
 use registers::Chip;
 
-// For a master (`nack`) or a slave. The Rust has no second number.
+// For a master (`nack`) or a slave. The Rust has no second number, and no flags.
 pub fn as_the_rust(ending: Ending, chip: Chip, nack: bool) -> Ending
     ensures { λ r. ⌜ r ≡ asTheRust chip nack ending ⌝ }
 {
     match ending {
         Ending::Done(outcome) => ending::returned(outcome.value),
-        Ending::Failed(failure) => Ending::Failed(failure),
+        Ending::Failed(failure) => {
+            let error = failure.error;
+            ending::failed(error)
+        }
     }
 }

@@ -7,8 +7,10 @@ use mathlib.Core.List.{List}
 use lib.ListN.{getD}
 use Rattle.access.specs.declared.ending.Ending.{Ending}
 use Rattle.access.specs.Endings.{endingOf, endingError, endingValue, endingExtra, isEnding, isPlain}
+use Rattle.errors.specs.Met.{hasFailed}
 use Rattle.block.specs.declared.fields.Fields.{Fields}
 use Rattle.block.specs.Bytes32.{wordAt}
+use Rattle.images.specs.Numbers.{chipOf}
 
 -- the ending that a block says, and whether its words are an ending's
 abbrev pub endingAt : List ℕ → Ending
@@ -18,7 +20,11 @@ abbrev pub isEndingAt : List ℕ → Bool
 isEndingAt b = isEnding (getD b 7 0) (wordAt b 22) (wordAt b 30)
 
 abbrev pub isPlainAt : List ℕ → Bool
-isPlainAt b = isPlain (getD b 7 0) (wordAt b 22) (wordAt b 30)
+isPlainAt b = isPlain (getD b 7 0) (wordAt b 22)
+
+-- an error that a call of the block's chip can meet, as a master (`nack`) or a slave
+abbrev pub hasFailedAt : Bool → List ℕ → Bool
+hasFailedAt nack b = hasFailed (chipOf (getD b 1 0)) nack (endingAt b)
 
 -- a block whose words are those of the ending e
 pub record KeepsEnd (b : List ℕ) (e : Ending) : Type 0 where

@@ -1,14 +1,16 @@
 // How a call is to end, in the words of its block.
 ghost use mathlib.Core.Path.{_≡_};
 ghost use lib.ListN.{length};
-ghost use Rattle.access.specs.Endings.{isDone, hasFailed};
+ghost use Rattle.access.specs.Endings.{isDone};
 ghost use Rattle.block.specs.declared.fields.Fields.{Fields};
 ghost use Rattle.block.specs.Bytes32.{blockSize, bytesOf};
-ghost use Rattle.images.specs.EndImage.{endingAt, isEndingAt, isPlainAt, withEnd};
+ghost use Rattle.images.specs.EndImage.{endingAt, isEndingAt, isPlainAt, hasFailedAt, withEnd};
+use crate::numbers;
 use access::Ending;
 use access::ending;
 use block::at;
 use block::bytes32;
+use errors::met;
 
 // The block says this ending.
 pub fn put(block: &mut [u8], ending: Ending)
@@ -39,11 +41,7 @@ pub fn is_plain(block: &[u8]) -> bool
     requires { ⌜ length (now block) ≡ blockSize ⌝ }
     ensures { λ r. ⌜ r ≡ isPlainAt (now (block .entry)) ⌝ }
 {
-    ending::is_plain(
-        block[at::ERROR],
-        bytes32::word_at(block, at::VALUE),
-        bytes32::word_at(block, at::EXTRA),
-    )
+    ending::is_plain(block[at::ERROR], bytes32::word_at(block, at::VALUE))
 }
 
 // No end is known.
@@ -58,14 +56,17 @@ pub fn is_done(block: &[u8]) -> bool
     )
 }
 
-// An error was met, 1 to 6.
-pub fn has_failed(block: &[u8]) -> bool
+// An error was met that the block's chip can give, with flags that fit it.
+pub fn has_failed(block: &[u8], nack: bool) -> bool
     requires { ⌜ length (now block) ≡ blockSize ⌝ }
-    ensures { λ r. ⌜ r ≡ hasFailed (endingAt (now (block .entry))) ⌝ }
+    ensures { λ r. ⌜ r ≡ hasFailedAt nack (now (block .entry)) ⌝ }
 {
-    ending::has_failed(
+    let chip = numbers::chip_of(block[at::CHIP]);
+    met::has_failed(
         block[at::ERROR],
         bytes32::word_at(block, at::VALUE),
         bytes32::word_at(block, at::EXTRA),
+        chip,
+        nack,
     )
 }

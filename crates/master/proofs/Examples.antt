@@ -11,8 +11,10 @@ use Rattle.registers.specs.declared.register.Register.the-variants.{Ctlr1, Ctlr
 use Rattle.registers.specs.Word.{hasBit, putBit, fieldOf, putField}
 use Rattle.registers.specs.Flags.{errorFlags, clearError}
 use Rattle.registers.specs.Addresses.{addressWord}
-use Rattle.access.specs.declared.ending.Error.the-variants.{Nack}
-use Rattle.access.specs.Endings.{done, failed}
+use Rattle.access.specs.declared.ending.Ending.{Ending}
+use Rattle.access.specs.declared.ending.Ending.the-variants.{Failed}
+use Rattle.access.specs.declared.ending.Error.the-variants.{Arbitration, Nack, Timeout}
+use Rattle.access.specs.Endings.{flagged, done, failed}
 use Rattle.access.specs.Program.{read, write, late, checkTimeout}
 use Rattle.access.specs.Record.{Event, Shown, DifferInPayload, Same, SameStruck}
 use Rattle.operations.specs.declared.operation.Direction.the-variants as direction
@@ -49,25 +51,43 @@ emptyWrite = record { list = 0 ∷ 0 ∷ 0 ∷ []; written = []; room = 0 }
 abbrev given : List ℕ
 given = 0x0001 ∷ 0x0001 ∷ 0x0000 ∷ 0x0001 ∷ 0 ∷ 0x0001 ∷ 0x0001 ∷ 0x0003 ∷ 0 ∷ 0x0400 ∷ 0 ∷ 0x0008 ∷ 0 ∷ 0x0001 ∷ 0x0003 ∷ 0x0001 ∷ 0 ∷ []
 
-abbrev expected : Shown
-expected =
+abbrev expected : Ending → Shown
+expected e =
     record {
       events = asked Ctlr1 0x0001 ∷ asked Ctlr1 0x0001 ∷ asked Star1 0x0000 ∷ asked Ctlr1 0x0001 ∷ wrote Ctlr1 0x0101 ∷ asked Star1 0x0001 ∷ asked Ctlr1 0x0001 ∷ asked Star2 0x0003 ∷ wrote Datar 0x0042 ∷ asked Star1 0x0400 ∷ wrote Star1 0xfbff ∷ asked Ctlr2 0x0008 ∷ wrote Ctlr2 0x0008 ∷ asked Ctlr1 0x0001 ∷ asked Star2 0x0003 ∷ asked Ctlr1 0x0001 ∷ wrote Ctlr1 0x0201 ∷ [];
       arrivals = [];
-      end = some (failed Nack);
+      end = some e;
     }
 
-in-layer-2 : callShown call emptyWrite given ≡ expected
+-- our error check says the flags with the error, and the Rust's does not
+in-layer-2 : callShown call emptyWrite given ≡ expected (Failed (flagged Nack 0x0400))
 unfolding callShown refusal shaped faultFrom operationsOf runsOf runsFrom runFrom owed advance hasBit putBit fieldOf putField errorFlags clearError addressWord errorOf late
 in-layer-2 = refl
 
-in-the-rust : rustWith 18 call emptyWrite given ≡ expected
+in-the-rust : rustWith 18 call emptyWrite given ≡ expected (failed Nack)
 unfolding rustWith operationsOf rust.blocking-transaction rust.validate-address rust.validate-operations rust.validate-from rust.transact rust.write-group rust.write-bytes rust.start-and-address rust.launch-start rust.wait-stop-finished rust.wait-flag rust.check-and-clear-error-flags rust.abort-transfer rust.finish-transfer rust.generate-stop rust.checked-add hasBit putBit fieldOf putField errorFlags clearError addressWord checkTimeout late
 in-the-rust = refl
 
-in-ours : oursWith 18 call emptyWrite given ≡ expected
+in-ours : oursWith 18 call emptyWrite given ≡ expected (Failed (flagged Nack 0x0400))
 unfolding oursWith operationsOf rust.blocking-transaction rust.validate-address rust.validate-operations rust.validate-from rust.transact rust.write-group rust.write-bytes rust.start-and-address rust.launch-start rust.wait-stop-finished rust.wait-flag ours.check-and-clear-error-flags check-errors errorOf rust.abort-transfer rust.finish-transfer rust.generate-stop rust.checked-add hasBit putBit fieldOf putField errorFlags clearError addressWord checkTimeout late
 in-ours = refl
+
+-- ---- an overrun cleared with an arbitration lost, and in the word before a BERR that is no error on this chip
+
+abbrev both : List ℕ
+both = 0 ∷ 0 ∷ 0 ∷ 0 ∷ 0 ∷ 0x0100 ∷ 0 ∷ 0 ∷ 0x0a00 ∷ 0 ∷ 0 ∷ 0 ∷ 0 ∷ 1 ∷ 0x8000 ∷ 0 ∷ []
+
+both-shown : callShown call emptyWrite both .end ≡ some (Failed (flagged Arbitration 0x0a00))
+unfolding callShown refusal shaped faultFrom operationsOf runsOf runsFrom runFrom owed advance hasBit putBit fieldOf putField errorFlags clearError addressWord errorOf late
+both-shown = refl
+
+-- the same BERR and then a late clock: no check decided
+abbrev lateClock : List ℕ
+lateClock = 0 ∷ 0 ∷ 0 ∷ 0 ∷ 0 ∷ 0x0100 ∷ 0 ∷ 1 ∷ 0 ∷ 0 ∷ 0 ∷ 0 ∷ 0 ∷ 0 ∷ []
+
+late-shown : callShown call emptyWrite lateClock .end ≡ some (failed Timeout)
+unfolding callShown refusal shaped faultFrom operationsOf runsOf runsFrom runFrom owed advance hasBit putBit fieldOf putField errorFlags clearError addressWord errorOf late
+late-shown = refl
 
 -- ---- the same runs, divided differently
 

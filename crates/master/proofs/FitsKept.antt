@@ -11,13 +11,14 @@ use Rattle.registers.specs.Flags.{errorFlags}
 use Rattle.registers.specs.Bits.{START, STOP, SB, RXNE, MSL}
 use Rattle.access.specs.declared.ending.Failure.{Failure}
 use Rattle.access.specs.declared.ending.Error.the-variants.{Arbitration, Timeout}
-use Rattle.access.specs.Endings.{failureOf, isMet, isDone, hasFailed}
+use Rattle.access.specs.Endings.{failureOf, isDone}
 use Rattle.access.specs.Program.{late}
 use Rattle.access.proofs.Choice.{chosen, both-true, first-true, second-true, either-true, other-true, same-true, true-same}
 use Rattle.errors.specs.declared.Checked.{Checked}
 use Rattle.errors.specs.declared.Checked.the-variants as checked
 use Rattle.errors.specs.Classes.{errorOf, decided}
-use Rattle.errors.proofs.ClassLaws.{class-met}
+use Rattle.errors.specs.Met.{isMet, hasFailed}
+use Rattle.errors.proofs.MetLaws.{found-met, unchecked-met}
 use Rattle.operations.specs.declared.search.Run.{Run}
 use Rattle.operations.specs.declared.search.FoundRun.{FoundRun}
 use Rattle.operations.specs.declared.search.FoundRun.the-variants.{At, Nothing}
@@ -190,7 +191,7 @@ module _ (sh : Shape) (sound : Sound sh) where
           at Begin (nextRun d) (t .1) (both-true (h .unfailed) (other-true (isRead (t .0 .direction)) (sound .started (d .run) r (h .where-in .found) m)))
 
       over : r .more ≡ false → Fit (to Ended d)
-      over m = at Ended d (h .where-in .found) (both-true (in-counts (h .where-in)) (other-true (hasFailed (d .ending)) (both-true (h .unfailed) (both-true (eq-eqb _ _ z) (ap not m)))))
+      over m = at Ended d (h .where-in .found) (both-true (in-counts (h .where-in)) (other-true (hasFailed (g .chip) true (d .ending)) (both-true (h .unfailed) (both-true (eq-eqb _ _ z) (ap not m)))))
 
   finished-fits : {r : Run} {d : Progress} → Here r d → d .left ≡ 0 → Fit (finished g r d)
   finished-fits {r} {d} h z =
@@ -231,7 +232,7 @@ module _ (sh : Shape) (sound : Sound sh) where
           go false q = either-true (eqb (r .length) 1) (lt-ltb 3 (d .left) (above-three (d .left) p (eqb-false _ _ q) (eqb-false _ _ n2) (eqb-false _ _ n3)))
 
   -- an error
-  fails-fits : {r : Run} {d : Progress} (x : Failure) → Here r d → isMet (x .error) ≡ true → Fit (fails x d)
+  fails-fits : {r : Run} {d : Progress} (x : Failure) → Here r d → isMet (g .chip) true x ≡ true → Fit (fails x d)
   fails-fits {r} {d} x h m = at (Abort abort.FinishRead) _ (h .where-in .found) (both-true (in-counts same-counts) (both-true m refl))
     where
       same-counts : In r (fails x d .progress)
@@ -241,7 +242,7 @@ module _ (sh : Shape) (sound : Sound sh) where
   ended-fits : {r : Run} {d : Progress} → Here r d → closing g r d ≡ true → Fit (to Ended d)
   ended-fits {r} {d} h e =
       at Ended d (h .where-in .found)
-      (both-true (in-counts (h .where-in)) (other-true (hasFailed (d .ending)) (both-true (h .unfailed) (both-true (second-true (stopsHere g r) _ e) (last (r .more) (first-true _ (eqb (d .left) 0) e))))))
+      (both-true (in-counts (h .where-in)) (other-true (hasFailed (g .chip) true (d .ending)) (both-true (h .unfailed) (both-true (second-true (stopsHere g r) _ e) (last (r .more) (first-true _ (eqb (d .left) 0) e))))))
     where
       last : (b : Bool) → cond b false (g .frame .«send_stop») ≡ true → not b ≡ true
       last true q = absurd (true≢false (sym q))
@@ -302,7 +303,7 @@ module _ (sh : Shape) (sound : Sound sh) where
   tests-fits : {r : Run} {d : Progress} (f : Flag) (w : ℕ) → Here r d → fitsWait g r f d ≡ true → Fit (tests g r f d w)
   tests-fits {r} {d} f w h e = chosen Fit (not (isSet f w)) (λ _. waiting-fits f wait.Clock h e) (λ _. waited-fits f h e)
 
-  judged-fits : {r : Run} {d : Progress} (f : Flag) (c : Checked) (w : ℕ) → decided c (λ x. isMet (x .error) ≡ true) (Unit {0}) → Here r d → fitsWait g r f d ≡ true
+  judged-fits : {r : Run} {d : Progress} (f : Flag) (c : Checked) (w : ℕ) → decided c (λ x. isMet (g .chip) true x ≡ true) (Unit {0}) → Here r d → fitsWait g r f d ≡ true
       → Fit (decided c (λ x. fails x d) (tests g r f d w))
   judged-fits f (checked.Failed x) w m h e = fails-fits x h m
   judged-fits f checked.Fine w m h e = tests-fits f w h e
@@ -320,8 +321,8 @@ module _ (sh : Shape) (sound : Sound sh) where
   waits-fits : {r : Run} {d : Progress} (f : Flag) (st : WaitStage) (a : ℕ) → Here r d → fitsWait g r f d ≡ true → Fit (waits g r st f d a)
   waits-fits {r} {d} f wait.Status a h e =
       chosen Fit (not (eqb (errorFlags a) 0)) (λ _. waiting-fits f wait.Clear (saved a h) (same-wait r d f a e)) (λ _. tests-fits f a h e)
-  waits-fits {r} {d} f wait.Clear a h e = judged-fits f (errorOf (g .chip) true (d .word)) (d .word) (class-met (g .chip) true (d .word)) h e
-  waits-fits {r} {d} f wait.Clock a h e = chosen Fit (late a) (λ _. fails-fits (failureOf Timeout) h refl) (λ _. waiting-fits f wait.Status h e)
+  waits-fits {r} {d} f wait.Clear a h e = judged-fits f (errorOf (g .chip) true (d .word)) (d .word) (found-met (g .chip) true (d .word)) h e
+  waits-fits {r} {d} f wait.Clock a h e = chosen Fit (late a) (λ _. fails-fits (failureOf Timeout) h (unchecked-met (g .chip) true Timeout)) (λ _. waiting-fits f wait.Status h e)
 
   -- ---- the other groups of stages
 
@@ -336,7 +337,7 @@ module _ (sh : Shape) (sound : Sound sh) where
   stop-fits {r} {d} f falling.Control a h e =
       chosen Fit (hasBit STOP a) (λ _. at (WaitStop f falling.Clock) d (h .where-in .found) (running h e)) (λ _. fallen-fits f h e)
   stop-fits {r} {d} f falling.Clock a h e =
-      chosen Fit (late a) (λ _. fails-fits (failureOf Timeout) h refl) (λ _. at (WaitStop f falling.Control) d (h .where-in .found) (running h e))
+      chosen Fit (late a) (λ _. fails-fits (failureOf Timeout) h (unchecked-met (g .chip) true Timeout)) (λ _. at (WaitStop f falling.Control) d (h .where-in .found) (running h e))
 
   launch-fits : {r : Run} {d : Progress} (st : LaunchStage) (a : ℕ) → Here r d → starting g r d ≡ true → Fit (launchStart st d a)
   launch-fits {r} {d} launch.Control a h e =
@@ -369,9 +370,9 @@ module _ (sh : Shape) (sound : Sound sh) where
 
   address-fits : {r : Run} {d : Progress} (st : AddressStage) (a : ℕ) → Here r d → starting g r d ≡ true → Fit (addressPhase g r st d a)
   address-fits {r} {d} address.Control a h e =
-      chosen Fit (hasBit START a) (λ _. fails-fits (failureOf Arbitration) h refl) (λ _. at (Address address.Master) d (h .where-in .found) (running h e))
+      chosen Fit (hasBit START a) (λ _. fails-fits (failureOf Arbitration) h (unchecked-met (g .chip) true Arbitration)) (λ _. at (Address address.Master) d (h .where-in .found) (running h e))
   address-fits {r} {d} address.Master a h e =
-      chosen Fit (not (hasBit MSL a)) (λ _. fails-fits (failureOf Arbitration) h refl) (λ _. at (Address address.Word) d (h .where-in .found) (running h e))
+      chosen Fit (not (hasBit MSL a)) (λ _. fails-fits (failureOf Arbitration) h (unchecked-met (g .chip) true Arbitration)) (λ _. at (Address address.Word) d (h .where-in .found) (running h e))
   address-fits address.Word a h e = waiting-fits Addr wait.Status h e
   address-fits address.Cleared a h e = addressed-fits h e
 
@@ -426,7 +427,7 @@ module _ (sh : Shape) (sound : Sound sh) where
   record Aborts (r : Run) (d : Progress) : Type 0 where
     found : runAt (sh .runs) (d .run) ≡ At r
     stay : counts r d ≡ true
-    failed : hasFailed (d .ending) ≡ true
+    failed : hasFailed (g .chip) true (d .ending) ≡ true
 
   aborting : {r : Run} {d : Progress} (st : AbortStage) → Aborts r d → fitsAbort (g .chip) st ≡ true → Fit (to (Abort st) d)
   aborting {r} {d} st h e = at (Abort st) d (h .found) (both-true (h .stay) (both-true (h .failed) e))
@@ -504,8 +505,8 @@ module _ (sh : Shape) (sound : Sound sh) where
       let h = here (fitsStop g r k d) f e in
       generate-fits k st a (h .0) (h .1)
   kept-at r (Abort st) d a f e =
-      let p = split (counts r d) (hasFailed (d .ending) && fitsAbort (g .chip) st) e in
-      abort-fits st a (record { found = f; stay = p .0; failed = split (hasFailed (d .ending)) (fitsAbort (g .chip) st) (p .1) .0 })
+      let p = split (counts r d) (hasFailed (g .chip) true (d .ending) && fitsAbort (g .chip) st) e in
+      abort-fits st a (record { found = f; stay = p .0; failed = split (hasFailed (g .chip) true (d .ending)) (fitsAbort (g .chip) st) (p .1) .0 })
   kept-at r Ended d a f e = at Ended d f e
 
   -- a state without a run is that of an empty list, which has ended

@@ -3,7 +3,8 @@ use mathlib.Core.Bool.{Bool, true, false, Bool·beq, not, _&&_, _||_}
 use Prim.Native.Nat.{ℕ, _+_}
 use lib.Dec.{eqb, leb, ltb}
 use Rattle.registers.specs.declared.chip.Chip.{Chip}
-use Rattle.access.specs.Endings.{hasFailed, isDone}
+use Rattle.access.specs.Endings.{isDone}
+use Rattle.errors.specs.Met.{hasFailed}
 use Rattle.operations.specs.declared.search.Run.{Run}
 use Rattle.operations.specs.declared.search.FoundRun.{FoundRun}
 use Rattle.operations.specs.declared.search.FoundRun.the-variants.{At, Nothing}
@@ -66,11 +67,11 @@ runs r b d = counts r d && (isDone (d .ending) && b)
 
 -- in an abort
 abbrev pub aborts : Chip → Run → AbortStage → Progress → Bool
-aborts chip r st d = counts r d && (hasFailed (d .ending) && fitsAbort chip st)
+aborts chip r st d = counts r d && (hasFailed chip true (d .ending) && fitsAbort chip st)
 
 -- ended with an error, or with all runs done
-abbrev pub isOver : Run → Progress → Bool
-isOver r d = hasFailed (d .ending) || (isDone (d .ending) && (eqb (d .left) 0 && not (r .more)))
+abbrev pub isOver : Chip → Run → Progress → Bool
+isOver chip r d = hasFailed chip true (d .ending) || (isDone (d .ending) && (eqb (d .left) 0 && not (r .more)))
 
 module _ (g : Setting) (r : Run) where
   -- between the run's START and its bytes
@@ -158,7 +159,7 @@ module _ (g : Setting) (r : Run) where
   fitsAt (ReadIter st) d = runs r (fitsRead st d) d
   fitsAt (GenerateStop k st) d = runs r (fitsStop k d) d
   fitsAt (Abort st) d = aborts (g .chip) r st d
-  fitsAt Ended d = counts r d && isOver r d
+  fitsAt Ended d = counts r d && isOver (g .chip) r d
 
 -- an empty list has ended at once
 abbrev pub isFresh : Progress → Bool

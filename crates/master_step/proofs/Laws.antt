@@ -1,6 +1,6 @@
 -- What the proofs of the groups share: a block is a state's, a step is taken or refused, and when a stage of a group fits.
 -- Assumes nothing.
-use mathlib.Core.Path.{_≡_, refl, sym, ap, subst, _∙_}
+use mathlib.Core.Path.{_≡_, refl, sym, ap, ap₂, subst, _∙_}
 use mathlib.Core.Bool.{Bool, true, false, cond, not, _&&_, true≢false}
 use mathlib.Core.List.{List}
 use Prim.Native.Nat.{ℕ, _+_, _*_, _%_, _/_}
@@ -9,12 +9,14 @@ use lib.Dec.{eqb, leb}
 use lib.ListN.{getD}
 use Rattle.access.specs.declared.ending.Failure.{Failure}
 use Rattle.access.specs.declared.need.Need.{Need}
+use Rattle.registers.specs.declared.chip.Chip.{Chip}
 use Rattle.access.specs.declared.ending.Ending.{Ending}
 use Rattle.access.specs.Endings.{done}
 use Rattle.block.specs.Bytes32.{bytesOf, wordAt}
 use Rattle.block.specs.declared.fields.Fields.{Fields}
-use Rattle.images.specs.EndImage.{KeepsEnd, withEnd}
-use Rattle.images.proofs.EndImageLaws.{keeps-end}
+use Rattle.errors.specs.Met.{hasFailed}
+use Rattle.images.specs.EndImage.{KeepsEnd, hasFailedAt, withEnd}
+use Rattle.images.proofs.EndImageLaws.{keeps-end, end-told}
 use Rattle.images.specs.Numbers.{flagNumber, chipOf}
 use Rattle.images.specs.MasterImage.{masterFields}
 use Rattle.images.proofs.NumberLaws.{chip-back}
@@ -107,6 +109,10 @@ no-flag-at c d g w p = ap (λ (n : ℕ). eqb n 0) (flag-at c d g w p) ∙ go (d 
 pub chip-at : (c : Call) (d : Progress) (g w p : ℕ) → chipOf (getD (blockAt c d g w p) 1 0) ≡ c .chip
 unfolding blockAt bytesOf fieldsAt
 chip-at c d g w p = chip-back (c .chip)
+
+-- the error of a call of this chip
+pub failed-at : (c : Call) (d : Progress) (g w p : ℕ) {b : List ℕ} → b ≡ blockAt c d g w p → hasFailedAt true b ≡ hasFailed (c .chip) true (d .ending)
+failed-at c d g w p e = ap₂ (λ (x : Chip) (y : Ending). hasFailed x true y) (ap (λ (x : List ℕ). chipOf (getD x 1 0)) e ∙ chip-at c d g w p) (end-told (end-at c d g w p e))
 
 -- what is known of the run, by what the step knows
 module _ {c : Call} {r : Run} {d : Progress} {here : Here} {b : List ℕ} {g w p : ℕ} (s : Seen c r d here b g w p) {v : Bool} where

@@ -3,13 +3,14 @@
 use Prim.Native.Nat.{ℕ}
 use native.Mathlib.Omega.{arith}
 use mathlib.Core.Path.{_≡_, refl, sym, ap, _∙_}
-use mathlib.Core.Bool.{Bool, true, false, Bool·beq, _&&_, _||_, true≢false}
+use mathlib.Core.Bool.{Bool, true, false, Bool·beq, cond, _&&_, _||_, true≢false}
 use mathlib.Core.List.{List}
 use lib.Dec.{eqb, leb, ltb}
-use borrow.Author.Tests.{eqb-true, ne-eqb, le-ltb, lt-ltb}
+use borrow.Author.Tests.{eqb-true, eq-eqb, ne-eqb, le-ltb, lt-ltb}
 use Rattle.access.proofs.EndingLaws.{ended-done}
-use Rattle.access.specs.Endings.{done, isDone, hasFailed}
-use Rattle.access.proofs.Choice.{both-true, first-true, second-true, either-true}
+use Rattle.access.specs.Endings.{done, isDone}
+use Rattle.errors.specs.Met.{hasFailed}
+use Rattle.access.proofs.Choice.{both-true, first-true, second-true}
 use Rattle.images.specs.Numbers.{flagNumber}
 use Rattle.operations.specs.declared.search.Run.{Run}
 use Rattle.operations.specs.Operations.{isRead}
@@ -38,27 +39,22 @@ only-second : (a b : Bool) → a ≡ false → a || b ≡ true → b ≡ true
 only-second true b e h = absurd (true≢false e)
 only-second false b e h = h
 
-only-first : (a b c : Bool) → b ≡ false → a || (b && c) ≡ true → a ≡ true
-only-first true b c e h = refl
-only-first false true c e h = absurd (true≢false e)
-only-first false false c e h = h
-
-no-first : (a b c : Bool) → a ≡ false → (a && b) || c ≡ true → c ≡ true
-no-first true b c e h = absurd (true≢false e)
-no-first false b c e h = h
-
 module _ (c : Call) (r : Run) (d : Progress) {here : Here} {b : List ℕ} (group w p : ℕ) where
-  pub ready : b ≡ blockAt c d group w p → here ≡ hereIn c r (isRead (r .direction)) → readyAt group r d ≡ true → Ready c r d here b group w p
+  pub ready : b ≡ blockAt c d group w p → here ≡ hereIn c r (isRead (r .direction)) → readyAt (c .chip) group r d ≡ true → Ready c r d here b group w p
   ready held going e =
-      let counted : eqb group 0 || counts r d ≡ true = first-true (eqb group 0 || counts r d) ((ltb group 9 && isDone (d .ending)) || (eqb group 9 && hasFailed (d .ending))) e in
-      let ending : (ltb group 9 && isDone (d .ending)) || (eqb group 9 && hasFailed (d .ending)) ≡ true = second-true (eqb group 0 || counts r d) ((ltb group 9 && isDone (d .ending)) || (eqb group 9 && hasFailed (d .ending))) e in
       record {
         held = held;
         going = going;
-        counted = λ h k. only-second (eqb group 0) (counts r d) (ne-eqb group 0 (λ z. omega arith)) counted;
-        unhurt = λ h. ended-done (d .ending) (second-true (ltb group 9) (isDone (d .ending)) (only-first (ltb group 9 && isDone (d .ending)) (eqb group 9) (hasFailed (d .ending)) (ne-eqb group 9 (λ z. omega arith)) ending));
-        hurt = λ h. second-true (eqb group 9) (hasFailed (d .ending)) (no-first (ltb group 9) (isDone (d .ending)) (eqb group 9 && hasFailed (d .ending)) (le-ltb group 9 (omega arith)) ending);
+        counted = λ h k. only-second (eqb group 0) (counts r d) (ne-eqb group 0 (λ z. omega arith)) (first-true (eqb group 0 || counts r d) (ends (eqb group 9)) e);
+        unhurt = λ h. ended-done (d .ending) (second-true (ltb group 9) (isDone (d .ending)) (tested (ne-eqb group 9 (λ z. omega arith))));
+        hurt = λ h. tested (eq-eqb group 9 h);
       }
+    where
+      ends : Bool → Bool
+      ends b = cond b (hasFailed (c .chip) true (d .ending)) (ltb group 9 && isDone (d .ending))
+
+      tested : {b : Bool} → eqb group 9 ≡ b → ends b ≡ true
+      tested q = ap ends (sym q) ∙ second-true (eqb group 0 || counts r d) (ends (eqb group 9)) e
 
 -- ---- and that they refuse nothing else
 
@@ -67,12 +63,14 @@ not-true true h = absurd (h refl)
 not-true false h = refl
 
 module _ (c : Call) (r : Run) (d : Progress) where
-  runs-ready : (b : Bool) → runs r b d ≡ true → counts r d && (isDone (d .ending) || false) ≡ true
-  runs-ready b e =
-      both-true (first-true (counts r d) (isDone (d .ending) && b) e) (either-true false (first-true (isDone (d .ending)) b (second-true (counts r d) (isDone (d .ending) && b) e)))
+  abbrev failing : Bool
+  failing = hasFailed (c .chip) true (d .ending)
 
-  fits-ready : (st : Stage) → ltb (stageGroup st) 10 ≡ true → fitsAt (settingOf c) r st d ≡ true → readyAt (stageGroup st) r d ≡ true
-  fits-ready stage.Begin h e = either-true false (first-true (isDone (d .ending)) _ (second-true (untouched d) _ e))
+  runs-ready : (b : Bool) → runs r b d ≡ true → counts r d && isDone (d .ending) ≡ true
+  runs-ready b e = both-true (first-true (counts r d) (isDone (d .ending) && b) e) (first-true (isDone (d .ending)) b (second-true (counts r d) (isDone (d .ending) && b) e))
+
+  fits-ready : (st : Stage) → ltb (stageGroup st) 10 ≡ true → fitsAt (settingOf c) r st d ≡ true → readyAt (c .chip) (stageGroup st) r d ≡ true
+  fits-ready stage.Begin h e = first-true (isDone (d .ending)) _ (second-true (untouched d) _ e)
   fits-ready (stage.WaitStop f st) h e = runs-ready (fitsFall (settingOf c) r f d) e
   fits-ready (stage.LaunchStart st) h e = runs-ready (starting (settingOf c) r d) e
   fits-ready (stage.Wait f st) h e = runs-ready (fitsWait (settingOf c) r f d) e
@@ -82,7 +80,7 @@ module _ (c : Call) (r : Run) (d : Progress) where
   fits-ready (stage.ReadIter st) h e = runs-ready (fitsRead (settingOf c) r st d) e
   fits-ready (stage.GenerateStop k st) h e = runs-ready (fitsStop (settingOf c) r k d) e
   fits-ready (stage.Abort st) h e =
-      both-true (first-true (counts r d) (hasFailed (d .ending) && fitsAbort (c .chip) st) e) (first-true (hasFailed (d .ending)) (fitsAbort (c .chip) st) (second-true (counts r d) (hasFailed (d .ending) && fitsAbort (c .chip) st) e))
+      both-true (first-true (counts r d) (failing && fitsAbort (c .chip) st) e) (first-true failing (fitsAbort (c .chip) st) (second-true (counts r d) (failing && fitsAbort (c .chip) st) e))
   fits-ready stage.Ended h e = absurd (true≢false (sym h))
 
   module _ (n w p : ℕ) where
@@ -93,12 +91,12 @@ module _ (c : Call) (r : Run) (d : Progress) where
     unfolding isStage
     group-told e = eqb-true (stageGroup (stageOf n w p)) n (first-true (eqb (stageGroup (stageOf n w p)) n) (eqb (stageWhat (stageOf n w p)) w && eqb (stagePhase (stageOf n w p)) p) e)
 
-    pub unready : readyAt n r d ≡ false → ltb n 10 && (isStage n w p && fitting) ≡ false
+    pub unready : readyAt (c .chip) n r d ≡ false → ltb n 10 && (isStage n w p && fitting) ≡ false
     unready test =
         not-true (ltb n 10 && (isStage n w p && fitting))
         (λ e.
         let open-group : ltb n 10 ≡ true = first-true (ltb n 10) (isStage n w p && fitting) e in
         let both : isStage n w p && fitting ≡ true = second-true (ltb n 10) (isStage n w p && fitting) e in
         let group : stageGroup (stageOf n w p) ≡ n = group-told (first-true (isStage n w p) fitting both) in
-        let yes : readyAt (stageGroup (stageOf n w p)) r d ≡ true = fits-ready (stageOf n w p) (ap (λ (x : ℕ). ltb x 10) group ∙ open-group) (second-true (isStage n w p) fitting both) in
-        true≢false (sym yes ∙ ap (λ (x : ℕ). readyAt x r d) group ∙ test))
+        let yes : readyAt (c .chip) (stageGroup (stageOf n w p)) r d ≡ true = fits-ready (stageOf n w p) (ap (λ (x : ℕ). ltb x 10) group ∙ open-group) (second-true (isStage n w p) fitting both) in
+        true≢false (sym yes ∙ ap (λ (x : ℕ). readyAt (c .chip) x r d) group ∙ test))

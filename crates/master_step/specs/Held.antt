@@ -9,7 +9,8 @@ use lib.ListN.{length, getD}
 use Rattle.access.specs.declared.ending.Error.the-variants.{InvalidState}
 use Rattle.access.specs.declared.need.Need.the-variants as need
 use Rattle.registers.specs.declared.chip.Chip.{Chip}
-use Rattle.access.specs.Endings.{done, failed, isDone, hasFailed, endingError, endingValue, endingExtra}
+use Rattle.access.specs.Endings.{done, failed, isDone, endingError, endingValue, endingExtra}
+use Rattle.errors.specs.Met.{hasFailed}
 use Rattle.block.specs.declared.fields.Fields.{Fields}
 use Rattle.block.specs.Bytes32.{bytesOf, blockSize}
 use Rattle.images.specs.Numbers.{flagNumber, chipNumber}
@@ -101,10 +102,10 @@ Beginning here left what phase a before after asked =
     (c : Call) (r : Run) (d : Progress) → Unbegun c r d here before what phase → left ≡ d .left
     → Steps (isStage 0 what phase && fitsAt (settingOf c) r (stageOf 0 what phase) d) c (advanceAt (settingOf c) r (stageOf 0 what phase) d a) before after asked
 
--- THE SAME IN AN ABORT: an error was met, with a number from 1 to 6
+-- THE SAME IN AN ABORT: an error was met, with flags that fit it
 pub record Failing (c : Call) (d : Progress) (block : List ℕ) (what phase : ℕ) : Type 0 where
   pub held : block ≡ blockAt c d 9 what phase
-  pub ending : hasFailed (d .ending) ≡ true
+  pub ending : hasFailed (c .chip) true (d .ending) ≡ true
 
 abbrev pub Aborting : ℕ → ℕ → ℕ → List ℕ → List ℕ → ℕ → Type 0
 Aborting what phase a before after asked =
@@ -116,13 +117,13 @@ abbrev pub Aborts : List ℕ → List ℕ → ℕ → (Chip → Progress → Mov
 Aborts before after asked m = (c : Call) (d : Progress) (p : ℕ) → Failing c d before 0 p → Moves c (m (c .chip) d) after asked
 
 -- THE STEP, at any numbers of a stage: what has to be seen before it. The run is r, its counts are in the block unless it is yet to
--- begin, and no error was met, or in an abort one with a number from 1 to 6
+-- begin, and no error was met, or in an abort one with flags that fit it
 pub record Ready (c : Call) (r : Run) (d : Progress) (here : Here) (block : List ℕ) (group what phase : ℕ) : Type 0 where
   pub held : block ≡ blockAt c d group what phase
   pub going : here ≡ hereIn c r (isRead (r .direction))
   pub counted : 0 < group → group < 10 → counts r d ≡ true
   pub unhurt : group < 9 → d .ending ≡ done
-  pub hurt : group ≡ 9 → hasFailed (d .ending) ≡ true
+  pub hurt : group ≡ 9 → hasFailed (c .chip) true (d .ending) ≡ true
 
 -- it is taken at a stage that fits and has not ended
 abbrev pub Step : ℕ → Here → ℕ → ℕ → ℕ → ℕ → List ℕ → List ℕ → ℕ → Type 0
@@ -131,8 +132,8 @@ Step group here left what phase a before after asked =
     → Steps (ltb group 10 && (isStage group what phase && fitsAt (settingOf c) r (stageOf group what phase) d)) c (advanceAt (settingOf c) r (stageOf group what phase) d a) before after asked
 
 -- whether a block can hold a stage of the group, by its counts and its ending
-abbrev pub readyAt : ℕ → Run → Progress → Bool
-readyAt group r d = (eqb group 0 || counts r d) && ((ltb group 9 && isDone (d .ending)) || (eqb group 9 && hasFailed (d .ending)))
+abbrev pub readyAt : Chip → ℕ → Run → Progress → Bool
+readyAt chip group r d = (eqb group 0 || counts r d) && cond (eqb group 9) (hasFailed chip true (d .ending)) (ltb group 9 && isDone (d .ending))
 
 -- the stage of a block's numbers
 abbrev pub stageIn : List ℕ → Stage

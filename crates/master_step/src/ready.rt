@@ -28,12 +28,14 @@ fn counts(block: &[u8], here: Here, left: u16) -> bool
             & (place as u32 + left as u32 == here.before as u32 + here.length as u32))
 }
 
-// Before its first access a run has no counts in the block; an error was met in an abort, and nowhere before it.
+// Before its first access a run has no counts in the block; an error was met in an abort, with flags that fit it, and nowhere before.
 pub fn is_ready(block: &[u8], here: Here, left: u16, group: u8) -> bool
     requires { ⌜ length (now block) ≡ blockSize ⌝ }
-    ensures { λ t. ⌜ ((c : Call) (r : Run) (d : Progress) (g w p : ℕ) → now (block .entry) ≡ blockAt c d g w p → here ≡ hereIn c r (isRead (r .direction)) → left ≡ d .left → t ≡ readyAt group r d) ⌝ }
+    ensures { λ t. ⌜ ((c : Call) (r : Run) (d : Progress) (g w p : ℕ) → now (block .entry) ≡ blockAt c d g w p → here ≡ hereIn c r (isRead (r .direction)) → left ≡ d .left → t ≡ readyAt (c .chip) group r d) ⌝ }
 {
-    ((group == stage::BEGIN) | counts(block, here, left))
-        & (((group < stage::ABORT) & end_image::is_done(block))
-            | ((group == stage::ABORT) & end_image::has_failed(block)))
+    let counted = (group == stage::BEGIN) | counts(block, here, left);
+    if group == stage::ABORT {
+        return counted & end_image::has_failed(block, true);
+    }
+    counted & ((group < stage::ABORT) & end_image::is_done(block))
 }

@@ -1,12 +1,12 @@
--- The error flags are the mask 0x5f00, and without one none of their bits is set.
+-- The error flags are the mask 0x5f00, and without one none of their bits is set; of a word's flags the flags are the same, bit by bit.
 -- Assumes nothing.
-use Prim.Native.Nat.{ℕ, _+_, _*_, _/_, _%_, _^_}
+use Prim.Native.Nat.{ℕ, _+_, _*_, _/_, _%_, _^_, _<_}
 use mathlib.Core.Path.{_≡_, refl, sym, ap, ap₂, _∙_, subst}
 use mathlib.Core.Bool.{false}
 use native.Mathlib.Omega.{arith}
 use native.Mathlib.Nat.{mod-lt, zero-mod, zero-div}
 use lib.Bits.{bitAnd, and-mask, and-high, and-block}
-use lib.Dec.{lit<}
+use lib.Dec.{eqb, lit<}
 use lib.Pow.{split, pow-pos, field, mod-mod-pow, shr-shr}
 use borrow.Author.Tests.{ne-eqb}
 use Rattle.registers.specs.Bits.{BERR, ARLO, AF, OVR, PECERR, TIMEOUT}
@@ -63,4 +63,61 @@ clear-flags w z =
       ovr = clear-flag OVR w (low 1 3 refl);
       pecerr = clear-flag PECERR w (low 0 4 refl);
       timeout = clear-flag TIMEOUT w (λ e. let h = high-clear w z in omega arith);
+    }
+
+-- ---- the flags of the flags
+
+record Parts (a b : ℕ) : Type 0 where
+  low : (a * 2 ^ 8 + b * 2 ^ 14) / 2 ^ 8 % 2 ^ 5 ≡ a
+  high : (a * 2 ^ 8 + b * 2 ^ 14) / 2 ^ 14 % 2 ≡ b
+
+parts : (a b : ℕ) → a < 2 ^ 5 → b < 2 → Parts a b
+parts a b h k = record { low = omega (arith, h); high = omega (arith, h, k) }
+
+in-parts : (w : ℕ) → Parts (w / 2 ^ 8 % 2 ^ 5) (w / 2 ^ 14 % 2)
+in-parts w = parts (w / 2 ^ 8 % 2 ^ 5) (w / 2 ^ 14 % 2) (mod-lt (w / 2 ^ 8) (pow-pos 5)) (mod-lt (w / 2 ^ 14) (pow-pos 1))
+
+pub flags-again : (w : ℕ) → errorFlags (errorFlags w) ≡ errorFlags w
+unfolding errorFlags
+flags-again w = let p = in-parts w in ap₂ (λ (x y : ℕ). x * 2 ^ 8 + y * 2 ^ 14) (p .low) (p .high)
+
+low-same : (w : ℕ) → errorFlags w / 2 ^ 8 % 2 ^ 5 ≡ w / 2 ^ 8 % 2 ^ 5
+unfolding errorFlags
+low-same w = in-parts w .low
+
+high-same : (w : ℕ) → errorFlags w / 2 ^ 14 % 2 ≡ w / 2 ^ 14 % 2
+unfolding errorFlags
+high-same w = in-parts w .high
+
+-- a digit of a number is that of its last digits
+digit-in : (x k j : ℕ) → x % 2 ^ (k + (1 + j)) / 2 ^ j % 2 ≡ x / 2 ^ j % 2
+digit-in x k j = sym (field (x % 2 ^ (k + (1 + j))) 1 j) ∙ ap (λ (n : ℕ). n / 2 ^ j) (mod-mod-pow x k (1 + j)) ∙ field x 1 j
+
+kept-bit : (n w : ℕ) → errorFlags w / 2 ^ n % 2 ≡ w / 2 ^ n % 2 → hasBit n (errorFlags w) ≡ hasBit n w
+unfolding hasBit
+kept-bit n w e = ap (λ (b : ℕ). eqb b 1) e
+
+kept-low : (k j w : ℕ) → k + (1 + j) ≡ 5 → hasBit (8 + j) (errorFlags w) ≡ hasBit (8 + j) w
+kept-low k j w q =
+    let digit : (v : ℕ) → v / 2 ^ 8 % 2 ^ 5 / 2 ^ j % 2 ≡ v / 2 ^ (8 + j) % 2 =
+    λ v. ap (λ (n : ℕ). v / 2 ^ 8 % 2 ^ n / 2 ^ j % 2) (sym q) ∙ digit-in (v / 2 ^ 8) k j ∙ ap (λ (n : ℕ). n % 2) (shr-shr v 8 j) in
+    kept-bit (8 + j) w (sym (digit (errorFlags w)) ∙ ap (λ (n : ℕ). n / 2 ^ j % 2) (low-same w) ∙ digit w)
+
+pub record SameFlags (w : ℕ) : Type 0 where
+  pub berr : hasBit BERR (errorFlags w) ≡ hasBit BERR w
+  pub arlo : hasBit ARLO (errorFlags w) ≡ hasBit ARLO w
+  pub af : hasBit AF (errorFlags w) ≡ hasBit AF w
+  pub ovr : hasBit OVR (errorFlags w) ≡ hasBit OVR w
+  pub pecerr : hasBit PECERR (errorFlags w) ≡ hasBit PECERR w
+  pub timeout : hasBit TIMEOUT (errorFlags w) ≡ hasBit TIMEOUT w
+
+pub same-flags : (w : ℕ) → SameFlags w
+same-flags w =
+    record {
+      berr = kept-low 4 0 w refl;
+      arlo = kept-low 3 1 w refl;
+      af = kept-low 2 2 w refl;
+      ovr = kept-low 1 3 w refl;
+      pecerr = kept-low 0 4 w refl;
+      timeout = kept-bit TIMEOUT w (high-same w);
     }

@@ -54,8 +54,8 @@ pub fn step(
     }
 }
 
-// The second number of an end.
-pub fn second(end: u64) -> u16 {
+// What stands beside an end: the second count at 0, the flags at an error.
+pub fn extra(end: u64) -> u16 {
     ending::ending_extra(ending::ending_in(end))
 }
 

@@ -1,5 +1,5 @@
 // Replays the stored sample (oracle/SAMPLE.md) on the library: what the Rust made of each call is
-// compared access by access, with the end, its value, a reply's second count and every byte of the read buffer.
+// compared access by access, with the end, its value, a reply's second count or an error's flags, and every byte of the read buffer.
 mod all;
 mod library;
 mod play;

@@ -116,7 +116,7 @@ fn steps(
     }
 }
 
-// A stored end: its code, its number, its value and its second count.
+// A stored end: its code, its number, its value, and its second count or its flags.
 const END_LENGTH: usize = 6;
 
 // A step after the end.
@@ -153,8 +153,8 @@ fn finish(
     }
     let number = left[1];
     let end = stored::end(number, stored::word(left[2], left[3]));
-    let second = stored::word(left[4], left[5]);
-    if (library::as_the_rust(entry, chip, next) != end) | (library::second(next) != second) {
+    let extra = stored::word(left[4], left[5]);
+    if (library::as_the_rust(entry, chip, next) != end) | (library::extra(next) != extra) {
         return 0;
     }
     if is_first & (number != 0) {

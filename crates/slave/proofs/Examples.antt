@@ -11,11 +11,14 @@ use Rattle.registers.specs.declared.chip.Chip.{Chip}
 use Rattle.registers.specs.Word.{hasBit, fieldOf}
 use Rattle.registers.specs.Flags.{errorFlags}
 use Rattle.registers.specs.Addresses.{ownTen}
-use Rattle.access.specs.Endings.{returned, returnedBoth}
+use Rattle.access.specs.declared.ending.Ending.the-variants.{Failed}
+use Rattle.access.specs.declared.ending.Error.the-variants.{Overrun, Timeout}
+use Rattle.access.specs.Endings.{flagged, failed, returned, returnedBoth}
 use Rattle.access.specs.Program.{late}
 use Rattle.access.specs.Record.{DifferInPayload, Same, SameStruck}
 use Rattle.access.specs.Edges.{EdgesHold}
 use Rattle.alike.specs.Like.{forgetting}
+use Rattle.errors.specs.Classes.{errorOf}
 use Rattle.errors.specs.AsTheRust.{asTheRust}
 use Rattle.slave.specs.declared.state.Kind.the-variants.{Listen, RespondToWrite, RespondToRead}
 use Rattle.slave.specs.Rust as rust
@@ -109,6 +112,17 @@ padding-waits = refl
 stop-finds-it : slaveShown plain RespondToRead three (0x80 ∷ 0 ∷ 0x80 ∷ 0 ∷ 0x10 ∷ 0x90 ∷ 1 ∷ 0 ∷ []) .end ≡ some (returnedBoth 2 2)
 unfolding slaveShown owed advance hasBit errorFlags
 stop-finds-it = refl
+
+-- ---- a slave's error says AF among its flags, which decides nothing
+
+overrun-ends : slaveShown plain RespondToWrite two (0x0c00 ∷ 0 ∷ 0 ∷ 0 ∷ 0 ∷ []) .end ≡ some (Failed (flagged Overrun 0x0c00))
+unfolding slaveShown owed advance hasBit errorFlags errorOf
+overrun-ends = refl
+
+-- AF alone is no error: the clock is asked, and it is late
+late-ends : slaveShown plain RespondToWrite two (0x0400 ∷ 0 ∷ 1 ∷ 0 ∷ 0 ∷ 0 ∷ []) .end ≡ some (failed Timeout)
+unfolding slaveShown owed advance hasBit errorFlags errorOf late
+late-ends = refl
 
 -- ---- two receives of one length that get other bytes
 

@@ -14,14 +14,15 @@ use Rattle.registers.specs.Word.{hasBit, fieldOf}
 use Rattle.registers.specs.Flags.{errorFlags}
 use Rattle.access.specs.declared.ending.Failure.{Failure}
 use Rattle.access.specs.declared.ending.Error.the-variants.{Timeout}
-use Rattle.access.specs.Endings.{failureOf, isMet, isDone, hasFailed}
+use Rattle.access.specs.Endings.{failureOf, isDone}
 use Rattle.access.specs.Program.{late}
 use Rattle.access.proofs.Choice.{chosen, both-true, first-true, second-true, either-true, other-true}
 use Rattle.access.proofs.Compared.{itself}
 use Rattle.errors.specs.declared.Checked.{Checked}
 use Rattle.errors.specs.declared.Checked.the-variants as checked
 use Rattle.errors.specs.Classes.{errorOf, decided}
-use Rattle.errors.proofs.ClassLaws.{class-met}
+use Rattle.errors.specs.Met.{isMet, hasFailed}
+use Rattle.errors.proofs.MetLaws.{found-met, unchecked-met}
 use Rattle.slave.specs.declared.config.SlaveAddress.{SlaveAddress}
 use Rattle.slave.specs.declared.command.SlaveCommandKind.{SlaveCommandKind}
 use Rattle.slave.specs.declared.command.SlaveCommandKind.the-variants.{GeneralCall, Read, Write}
@@ -83,7 +84,7 @@ module _ (chip : Chip) (size : ℕ) where
     abbrev Counts : Type 0
     Counts = counts (G x) d ≡ true
 
-    fails-fits : (f : Failure) → Counts → isMet (f .error) ≡ true → Fit x (fails f d)
+    fails-fits : (f : Failure) → Counts → isMet chip false f ≡ true → Fit x (fails f d)
     fails-fits f c m = at x (Abort abort.DisableRead) _ (both-true c m)
 
     -- no end is known yet
@@ -103,16 +104,16 @@ module _ (chip : Chip) (size : ℕ) where
     closed : (b : Bool) → closes (G x) b d ≡ true → isOver (G x) d ≡ true
     closed b e =
         both-true (first-true (counts (G x) d) (returns (G x) d && b) e)
-        (other-true (hasFailed (d .ending)) (first-true (returns (G x) d) b (second-true (counts (G x) d) (returns (G x) d && b) e)))
+        (other-true (hasFailed chip false (d .ending)) (first-true (returns (G x) d) b (second-true (counts (G x) d) (returns (G x) d && b) e)))
 
-    aborted : counts (G x) d && hasFailed (d .ending) ≡ true → isOver (G x) d ≡ true
+    aborted : counts (G x) d && hasFailed chip false (d .ending) ≡ true → isOver (G x) d ≡ true
     aborted e =
-        both-true (first-true (counts (G x) d) (hasFailed (d .ending)) e) (either-true (returns (G x) d) (second-true (counts (G x) d) (hasFailed (d .ending)) e))
+        both-true (first-true (counts (G x) d) (hasFailed chip false (d .ending)) e) (either-true (returns (G x) d) (second-true (counts (G x) d) (hasFailed chip false (d .ending)) e))
 
     errors-fit : (a : ℕ) → runs (G x) true d ≡ true → Fit x (slaveHandleErrors d a)
     errors-fit a e = chosen (Fit x) (not (eqb (errorFlags a) 0)) (λ _. at x (Errors errors.Clear) (saves a d) e) (λ _. at x (Errors errors.Clock) d e)
 
-    judged-fits : (c : Checked) → decided c (λ f. isMet (f .error) ≡ true) (Unit {0}) → runs (G x) true d ≡ true
+    judged-fits : (c : Checked) → decided c (λ f. isMet chip false f ≡ true) (Unit {0}) → runs (G x) true d ≡ true
         → Fit x (decided c (λ f. fails f d) (to (Errors errors.Clock) d))
     judged-fits (checked.Failed y) m e = fails-fits y (open-counts true e) m
     judged-fits checked.Fine m e = at x (Errors errors.Clock) d e
@@ -201,8 +202,8 @@ module _ (chip : Chip) (size : ℕ) where
   kept-at RespondToRead Send d a e = at RespondToRead Poll _ (both-true (sent-fits d (open-counts RespondToRead d true e)) (both-true (open-done RespondToRead d true e) refl))
   kept-at x (ClearAf half.Read) d a e = at x (ClearAf half.Write) (saves a d) e
   kept-at x (ClearAf half.Write) d a e = at x Ended d (closed x d _ e)
-  kept-at x (Errors errors.Clear) d a e = judged-fits x d (errorOf chip false (d .word)) (class-met chip false (d .word)) e
-  kept-at x (Errors errors.Clock) d a e = chosen (Fit x) (late a) (λ _. fails-fits x d (failureOf Timeout) (open-counts x d true e) refl) (λ _. at x Poll d e)
+  kept-at x (Errors errors.Clear) d a e = judged-fits x d (errorOf chip false (d .word)) (found-met chip false (d .word)) e
+  kept-at x (Errors errors.Clock) d a e = chosen (Fit x) (late a) (λ _. fails-fits x d (failureOf Timeout) (open-counts x d true e) (unchecked-met chip false Timeout)) (λ _. at x Poll d e)
   kept-at x (Abort abort.DisableRead) d a e = at x (Abort abort.DisableWrite) (saves a d) e
   kept-at x (Abort abort.DisableWrite) d a e = at x (Abort abort.Busy) d e
   kept-at x (Abort abort.Busy) d a e = chosen (Fit x) (hasBit BUSY a && not (hasBit MSL a)) (λ _. at x (Abort abort.StopRead) d e) (λ _. at x Ended d (aborted x d e))

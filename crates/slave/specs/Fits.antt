@@ -4,7 +4,8 @@ use Prim.Native.Nat.{ℕ, suc, pred}
 use lib.Dec.{eqb, leb, ltb}
 use Rattle.access.specs.declared.ending.Ending.{Ending}
 use Rattle.access.specs.declared.ending.Ending.the-variants.{Done, Failed}
-use Rattle.access.specs.Endings.{hasFailed, isDone}
+use Rattle.access.specs.Endings.{isDone}
+use Rattle.errors.specs.Met.{hasFailed}
 use Rattle.slave.specs.declared.stage.StopfFor.{StopfFor}
 use Rattle.slave.specs.declared.stage.StopfFor.the-variants as stopf
 use Rattle.slave.specs.declared.stage.Stage.{Stage}
@@ -72,10 +73,10 @@ module _ (g : Setting) where
   fitsStopf stopf.End d = closes (not (isListen (g .kind))) d
 
   abbrev pub aborts : Progress → Bool
-  aborts d = counts d && hasFailed (d .ending)
+  aborts d = counts d && hasFailed (g .chip) false (d .ending)
 
   abbrev pub isOver : Progress → Bool
-  isOver d = counts d && (hasFailed (d .ending) || returns d)
+  isOver d = counts d && (hasFailed (g .chip) false (d .ending) || returns d)
 
   abbrev pub fitsAt : Stage → Progress → Bool
   fitsAt (ClearStopf f st) d = fitsStopf f d

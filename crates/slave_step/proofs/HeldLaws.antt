@@ -11,8 +11,11 @@ use borrow.Author.Tests.{eqb-true, ne-eqb, lt-ltb, le-leb, lt-leb, leb-true}
 use Rattle.access.specs.declared.ending.Ending.{Ending}
 use Rattle.access.specs.declared.ending.Ending.the-variants.{Failed}
 use Rattle.access.specs.declared.ending.Failure.{Failure}
-use Rattle.access.specs.Endings.{endingOf, isDone, hasFailed, isEnding, isPlain}
-use Rattle.access.proofs.EndingLaws.{ending-plain, plain-ending, as-failed, failed-told}
+use Rattle.registers.specs.declared.chip.Chip.{Chip}
+use Rattle.access.specs.Endings.{endingOf, isDone, isEnding, isPlain}
+use Rattle.access.proofs.EndingLaws.{ending-plain, plain-ending, as-failed}
+use Rattle.errors.specs.Met.{hasFailed}
+use Rattle.errors.proofs.MetLaws.{met-number}
 use Rattle.access.specs.declared.need.Need.the-variants as need
 use Rattle.access.specs.Machine.{isEnd}
 use Rattle.access.proofs.Choice.{first-true, second-true, both-true}
@@ -67,23 +70,22 @@ block-told b size n bytes c e = sym (bytes-back b n bytes) ∙ ap bytesOf (sym (
 -- ---- endings by their numbers
 
 -- an error has only the stages of an abort
-met-only : (a c : Bool) (x : Kind) (size count : ℕ) (f : Failure) → cond a (returnsIn x size count (Failed f)) (cond c (hasFailed (Failed f)) (isDone (Failed f))) ≡ true → hasFailed (Failed f) ≡ true
-met-only true c x size count f h = absurd (true≢false (sym h))
-met-only false true x size count f h = h
-met-only false false x size count f h = absurd (true≢false (sym h))
+met-only : (chip : Chip) (a c : Bool) (x : Kind) (size count : ℕ) (f : Failure) → cond a (returnsIn x size count (Failed f)) (cond c (hasFailed chip false (Failed f)) (isDone (Failed f))) ≡ true
+    → hasFailed chip false (Failed f) ≡ true
+met-only chip true c x size count f h = absurd (true≢false (sym h))
+met-only chip false true x size count f h = h
+met-only chip false false x size count f h = absurd (true≢false (sym h))
 
-module _ (a c : Bool) (k : Kind) (size count n v x : ℕ) (byte : n < 256) where
+module _ (chip : Chip) (a c : Bool) (k : Kind) (size count n v x : ℕ) (byte : n < 256) where
   abbrev readyWith : Ending → Bool
-  readyWith e = cond a (returnsIn k size count e) (cond c (hasFailed e) (isDone e))
+  readyWith e = cond a (returnsIn k size count e) (cond c (hasFailed chip false e) (isDone e))
 
-  ready-ending : readyWith (endingOf n v x) ≡ true → isPlain n v x ≡ true → isEnding n v x ≡ true
+  ready-ending : readyWith (endingOf n v x) ≡ true → isPlain n v ≡ true → isEnding n v x ≡ true
   ready-ending h e = plain-ending n v x (go (eqb n 0) refl) e
     where
       go : (b : Bool) → eqb n 0 ≡ b → n ≤ 6
       go true z = let q = eqb-true n 0 z in omega arith
-      go false z =
-          let met : hasFailed (endingOf n v x) ≡ true = as-failed (λ (y : Ending). readyWith y ≡ true → hasFailed y ≡ true) n v x z (met-only a c k size count) h in
-          leb-true n 6 (second-true (ltb 0 n) (leb n 6) (failed-told n v x byte ∙ met))
+      go false z = met-number chip false n v x byte (as-failed (λ (y : Ending). readyWith y ≡ true → hasFailed chip false y ≡ true) n v x z (met-only chip a c k size count) h)
 
 -- ---- a stage that fits and has not ended is ready
 
@@ -220,7 +222,7 @@ module _ (size a : ℕ) (b after : List ℕ) (asked : ℕ) where
         let ready : readyAt g d (stageGroup st) (stageWhat st) ≡ true = fits-ready g d st open-still (second-true (leb size 65535) (fitsAt g st d) lent) in
         true≢false (sym ready ∙ ap (λ (n : ℕ). readyAt g d n (stageWhat st)) (group-told (f .stage) (f .what) (f .phase) s) ∙ ap (λ (n : ℕ). readyAt g d (f .stage) n) (what-told (f .stage) (f .what) (f .phase) s) ∙ short))
 
-    module _ (entry count : ℕ) (call plain ready : Bool) (call-is : call ≡ eqb (f .entry) entry && isCall f) (plain-is : plain ≡ isPlain (f .error) (f .value) (f .extra)) (ready-is : ready ≡ readyAt (settingAt (chipOf (f .chip)) entry size) (slaveOf f .progress) (f .stage) (f .what)) where
+    module _ (entry count : ℕ) (call plain ready : Bool) (call-is : call ≡ eqb (f .entry) entry && isCall f) (plain-is : plain ≡ isPlain (f .error) (f .value)) (ready-is : ready ≡ readyAt (settingAt (chipOf (f .chip)) entry size) (slaveOf f .progress) (f .stage) (f .what)) where
       ready-by : eqb (f .entry) entry ≡ true → ready ≡ readyAt (settingIn (slaveOf f) size) (slaveOf f .progress) (f .stage) (f .what)
       unfolding slaveOf
       ready-by e = ready-is ∙ ap (λ (n : ℕ). readyAt (settingAt (chipOf (f .chip)) n size) (slaveOf f .progress) (f .stage) (f .what)) (sym (eqb-true (f .entry) entry e))
@@ -245,14 +247,14 @@ module _ (size a : ℕ) (b after : List ℕ) (asked : ℕ) where
           let n : eqb (f .entry) entry ≡ true = first-true (eqb (f .entry) entry) (isCall f) called in
           let c : isCall f ≡ true = second-true (eqb (f .entry) entry) (isCall f) called in
           let tests : plain && ready ≡ true = second-true call (plain && ready) test in
-          let is-plain : isPlain (f .error) (f .value) (f .extra) ≡ true = sym plain-is ∙ first-true plain ready tests in
+          let is-plain : isPlain (f .error) (f .value) ≡ true = sym plain-is ∙ first-true plain ready tests in
           let g : Setting = settingIn (slaveOf f) size in
           let d : Progress = slaveOf f .progress in
           let st : Stage = stageOf (f .stage) (f .what) (f .phase) in
           let both : counts g d && endsAt g d (f .stage) (f .what) ≡ true = sym (ready-by n) ∙ second-true plain ready tests in
           let counted : counts g d ≡ true = first-true (counts g d) (endsAt g d (f .stage) (f .what)) both in
           let ending : endsAt g d (f .stage) (f .what) ≡ true = second-true (counts g d) (endsAt g d (f .stage) (f .what)) both in
-          let e : isEnding (f .error) (f .value) (f .extra) ≡ true = ready-ending (closing (f .stage) (f .what)) (eqb (f .stage) 9) (g .kind) size (f .count) (f .error) (f .value) (f .extra) byte ending is-plain in
+          let e : isEnding (f .error) (f .value) (f .extra) ≡ true = ready-ending (g .chip) (closing (f .stage) (f .what)) (eqb (f .stage) 9) (g .kind) size (f .count) (f .error) (f .value) (f .extra) byte ending is-plain in
           let steps : Steps (ltb (f .stage) 10 && (isStage (f .stage) (f .what) (f .phase) && fitsAt g st d)) g (advanceAt g st d a) b after asked = subst (λ (m : ℕ). Step (f .stage) m size count (f .what) (f .phase) a b after asked) (sym (eqb-true (f .entry) entry n)) step (chipOf (f .chip)) d (record { held = held c e; counted = counted; ending = ending }) count-is in
           by-entry entry (λ z. absurd (true≢false (sym n ∙ z)))
           (λ _. by-numbers (λ z. absurd (true≢false (sym c ∙ z))) (λ z. steps .refused (no-stage-fits (ltb (f .stage) 10) (fitsAt g st d) z)) (λ z. absurd (true≢false (sym e ∙ z)))

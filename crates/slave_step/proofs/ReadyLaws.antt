@@ -6,7 +6,8 @@ use mathlib.Core.Bool.{Bool, true, false, _&&_}
 use lib.Dec.{eqb, leb}
 use Rattle.registers.specs.declared.chip.Chip.{Chip}
 use Rattle.access.specs.declared.ending.Ending.{Ending}
-use Rattle.access.specs.Endings.{endingOf, isDone, hasFailed}
+use Rattle.access.specs.Endings.{endingOf, isDone}
+use Rattle.errors.specs.Met.{hasFailed}
 use Rattle.access.proofs.EndingLaws.{as-returned, as-failed}
 use Rattle.images.specs.SlaveImage.{kindOf}
 use Rattle.slave.specs.declared.state.Kind.{Kind}
@@ -25,7 +26,7 @@ module _ (chip : Chip) (entry size group what : ℕ) (d : Progress) (count : ℕ
   pub ready-closing : closing group what ≡ true → a ≡ leb count (limit (kindOf entry) size) → b ≡ returnsIn (kindOf entry) size count x → a && b ≡ readyAt (settingAt chip entry size) d group what
   ready-closing c p q = rw (p, q, n, e, c)
 
-  pub ready-failed : closing group what ≡ false → eqb group 9 ≡ true → a ≡ leb count (limit (kindOf entry) size) → b ≡ hasFailed x → a && b ≡ readyAt (settingAt chip entry size) d group what
+  pub ready-failed : closing group what ≡ false → eqb group 9 ≡ true → a ≡ leb count (limit (kindOf entry) size) → b ≡ hasFailed chip false x → a && b ≡ readyAt (settingAt chip entry size) d group what
   ready-failed c k p q = rw (p, q, n, e, c, k)
 
   pub ready-done : closing group what ≡ false → eqb group 9 ≡ false → a ≡ leb count (limit (kindOf entry) size) → b ≡ isDone x → a && b ≡ readyAt (settingAt chip entry size) d group what

@@ -9,7 +9,8 @@ use lib.ListN.{length}
 use Rattle.registers.specs.declared.chip.Chip.{Chip}
 use Rattle.access.specs.declared.ending.Error.the-variants.{InvalidState}
 use Rattle.access.specs.declared.need.Need.the-variants as need
-use Rattle.access.specs.Endings.{failed, isDone, hasFailed, endingError, endingValue, endingExtra}
+use Rattle.access.specs.Endings.{failed, isDone, endingError, endingValue, endingExtra}
+use Rattle.errors.specs.Met.{hasFailed}
 use Rattle.access.specs.Machine.{kept as stored}
 use Rattle.block.specs.declared.fields.Fields.{Fields}
 use Rattle.block.specs.Bytes32.{bytesOf, fieldsOf, blockSize}
@@ -89,7 +90,7 @@ closing group what = (eqb group 0 && eqb what 1) || eqb group 7
 
 -- the ending that the stages of a group have
 abbrev pub endsAt : Setting → Progress → ℕ → ℕ → Bool
-endsAt g d group what = cond (closing group what) (returns g d) (cond (eqb group 9) (hasFailed (d .ending)) (isDone (d .ending)))
+endsAt g d group what = cond (closing group what) (returns g d) (cond (eqb group 9) (hasFailed (g .chip) false (d .ending)) (isDone (d .ending)))
 
 -- what has to be seen before a step, whatever the numbers of the stage: the block is that of the call g with the progress d, the count is
 -- one that it can have, and the ending one of the group's

@@ -2,9 +2,10 @@
 ghost use mathlib.Core.Path.{_≡_};
 ghost use lib.Dec.{leb};
 ghost use Rattle.registers.specs.declared.chip.Chip.{Chip};
-ghost use lib.ListN.{length};
+ghost use lib.ListN.{length, getD};
 ghost use Rattle.block.specs.Bytes32.{blockSize};
 ghost use Rattle.images.specs.EndImage.{endingAt};
+ghost use Rattle.images.specs.Numbers.{chipOf};
 ghost use Rattle.images.specs.SlaveImage.{kindOf};
 ghost use Rattle.slave.specs.declared.state.Progress.{Progress};
 ghost use Rattle.slave.specs.Fits.{limit, canReturn, returnsIn};
@@ -63,13 +64,13 @@ fn is_closing(group: u8, what: u8) -> bool
 // The count is one that the call can have, and the ending one that the stages of the group have.
 pub fn is_ready(block: &[u8], entry: u8, size: u16, count: u32, group: u8, what: u8) -> bool
     requires { ⌜ length (now block) ≡ blockSize ⌝ }
-    ensures { λ r. ⌜ ((chip : Chip) (d : Progress) → d .count ≡ count → d .ending ≡ endingAt (now (block .entry)) → r ≡ readyAt (settingAt chip entry size) d group what) ⌝ }
+    ensures { λ r. ⌜ ((chip : Chip) (d : Progress) → chip ≡ chipOf (getD (now (block .entry)) 1 0) → d .count ≡ count → d .ending ≡ endingAt (now (block .entry)) → r ≡ readyAt (settingAt chip entry size) d group what) ⌝ }
 {
     if is_closing(group, what) {
         return counts(entry, size, count) & returns(block, entry, size, count);
     }
     if group == stage::ABORT {
-        return counts(entry, size, count) & end_image::has_failed(block);
+        return counts(entry, size, count) & end_image::has_failed(block, false);
     }
     counts(entry, size, count) & end_image::is_done(block)
 }

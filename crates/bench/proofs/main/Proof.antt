@@ -23,7 +23,7 @@ main-spec =
     (λ c. search needs)
     (λ c. search needs)
     (λ c. search needs)
-    (λ c κs. (le-of-eq (sym (length-replicate {A = ℕ} 65536 0)), (le-of-eq (sym (length-replicate {A = ℕ} 65536 0)), (le-of-eq (sym (length-replicate {A = ℕ} 4096 0)), (le-of-eq (sym (length-replicate {A = ℕ} 65535 0)), le-of-eq (sym (length-replicate {A = ℕ} 262163 0)))))))
+    (λ c κs. (le-of-eq (sym (length-replicate {A = ℕ} 65536 0)), (le-of-eq (sym (length-replicate {A = ℕ} 65536 0)), (le-of-eq (sym (length-replicate {A = ℕ} 4096 0)), (le-of-eq (sym (length-replicate {A = ℕ} 65535 0)), le-of-eq (sym (length-replicate {A = ℕ} 262168 0)))))))
     (λ c. omega (arith, c .before .before .before .before .before .answer .ensures .1, c .before .before .before .before .before .answer .kept))
     (λ c. let h : c .before .before .before .before .before .before .answer .result ≤ length (c .before .before .before .before .before .before .answer .last .1 .1 .1 .1 .1 .0) = omega (arith, c .before .before .before .before .before .before .answer .ensures .1, c .before .before .before .before .before .before .answer .kept) in sym (length-take-le _ (c .before .before .before .before .before .before .answer .last .1 .1 .1 .1 .1 .0) h))
     (λ c κs. search needs)

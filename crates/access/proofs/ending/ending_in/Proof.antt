@@ -10,9 +10,10 @@ ending-in-spec =
     tie.close
     (tie.spec
     (λ c. search needs)
+    (λ c. search needs)
     (λ c κs. search needs)
     (λ c κs. search needs)
-    (λ c. rw (ne-eqb _ _ (c .before .before .if1 .taken), c .failed .ensures, c .before .error-of .ensures))
+    (λ c. rw (ne-eqb _ _ (c .before .before .if1 .taken), c .flagged .ensures, c .before .error-of .ensures))
     (λ c. search needs)
     (λ c. search needs)
     (λ c κs. search needs)

@@ -18,6 +18,7 @@ put-ending-spec =
     (λ c. search needs)
     (λ c κs. search needs)
     (λ c κs. search needs)
+    (λ c κs. search needs)
     (λ c. search needs)
     (λ c. (rw (c .before .before .before .before .enum-told .given .1) (c .before .before .put-open .ensures .0), omega (arith, c .before .before .put-open .ensures .1)))
     (λ c. search needs)
@@ -25,4 +26,4 @@ put-ending-spec =
     (λ c. search needs)
     (λ c. (rw (c .before .before .before .before .enum-told3 .given .1) (c .before .before .put-open3 .ensures .0), omega (arith, c .before .before .put-open3 .ensures .1)))
     (λ c. search needs)
-    (λ c. (rw (c .before .before .before .before .before .before .next .given .1, ← c .before .before .before .ending-error .ensures) (c .before .before .put-end .ensures .0), c .before .before .put-end .ensures .1)))
+    (λ c. (rw (c .before .before .before .before .before .before .before .next .given .1, ← c .before .before .before .before .before .ending-error .ensures, ← c .before .before .before .before .flags-of .ensures) (c .before .before .put-end .ensures .0), c .before .before .put-end .ensures .1)))

@@ -13,7 +13,6 @@ put-used-spec =
     (λ c. search needs)
     (λ c κs. search needs)
     (λ c κs. search needs)
-    (λ c. search needs)
     (λ c κs. search needs)
     (λ c. search needs)
-    (λ c. (both (c .before .before .before .before .before .before .before .before .before .before .before .put .ensures) (both (c .before .before .before .before .before .before .before .put-decimal .ensures .0) (c .before .before .put2 .ensures)), omega (arith, c .before .before .before .before .before .before .before .before .before .before .before .put .ensures .place, c .before .before .before .before .before .before .before .put-decimal .ensures .1, c .before .before .put2 .ensures .place))))
+    (λ c. (both (c .before .before .before .before .before .before .before .before .before .before .put .ensures) (both (c .before .before .before .before .before .before .put-decimal .ensures .0) (c .before .before .put-value .ensures)), omega (arith, c .before .before .before .before .before .before .before .before .before .before .put .ensures .place, c .before .before .before .before .before .before .put-decimal .ensures .1, c .before .before .put-value .ensures .place))))

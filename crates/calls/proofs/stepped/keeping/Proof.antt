@@ -1,14 +1,8 @@
 -- `calls::stepped::keeping` meets its contract.
 -- Assumes nothing.
 use borrow.Author.Needs.{needs}
-use Rattle.calls.proofs.KeptLaws.{keeping-is}
 use Rattle.calls.proofs.stepped.keeping.Statement.{statement}
 use Rattle.calls.proofs.stepped.keeping.Tie as tie
 
 pub keeping-spec : {M : Type 1} → statement M
-keeping-spec =
-    tie.close
-    (tie.spec
-    (λ c κs. search needs)
-    (λ c κs. search needs)
-    (λ c. keeping-is (c .before .before .args .asked) _ (c .before .before .args .kept) (c .before .before .args .place) _ (c .before .need-of .ensures) (c .refused .ensures .number)))
+keeping-spec = tie.close (tie.spec (λ c κs. search needs) (λ c. rw (c .refused .ensures .number)))

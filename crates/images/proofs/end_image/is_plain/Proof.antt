@@ -2,9 +2,9 @@
 -- Assumes nothing.
 use borrow.Author.Needs.{needs}
 use Prim.Native.Nat.{ℕ}
-use mathlib.Core.Path.{_∙_}
+use mathlib.Core.Path.{ap, _∙_}
+use lib.ListN.{getD}
 use Rattle.access.specs.Endings.{isPlain}
-use Rattle.images.proofs.EndImageLaws.{by-words}
 use Rattle.images.proofs.end_image.is_plain.Statement.{statement}
 use Rattle.images.proofs.end_image.is_plain.Tie as tie
 
@@ -15,5 +15,4 @@ is-plain-spec =
     (λ c. search needs)
     (λ c κs. search needs)
     (λ c κs. search needs)
-    (λ c κs. search needs)
-    (λ c. c .is-plain .ensures ∙ by-words (c .before .before .before .before .before .args .block .now) (λ (n v x : ℕ). isPlain n v x) (c .before .before .word-at .ensures) (c .before .word-at2 .ensures)))
+    (λ c. c .is-plain .ensures ∙ ap (isPlain (getD (c .before .before .before .before .args .block .now) 7 0)) (c .before .word-at .ensures)))
