@@ -1,46 +1,81 @@
 -- Our error check is the Rust's, its end read as the Rust's.
 -- Assumes nothing.
-use mathlib.Core.Path.{_≡_, refl, subst}
-use mathlib.Core.Bool.{Bool, _&&_}
+use mathlib.Core.Path.{_≡_, refl, sym, ap, _∙_, subst}
+use mathlib.Core.Bool.{Bool, true, false, cond, _&&_, true≢false}
 use Prim.Native.Nat.{ℕ}
 use Rattle.registers.specs.declared.chip.Chip.{Chip}
-use Rattle.registers.specs.Bits.{BERR, ARLO, AF, OVR, PECERR, TIMEOUT}
 use Rattle.registers.specs.Word.{hasBit}
 use Rattle.registers.specs.Flags.{errorFlags}
+use Rattle.registers.proofs.FlagLaws.{same-flags, clear-flags}
 use Rattle.access.specs.declared.ending.Error.{Error}
-use Rattle.access.specs.declared.ending.Error.the-variants.{Bus, Arbitration, Nack, Timeout, Crc, Overrun}
+use Rattle.access.specs.declared.ending.Error.the-variants.{Bus, Nack, Timeout}
+use Rattle.access.specs.declared.ending.Ending.{Ending}
+use Rattle.access.specs.declared.ending.Ending.the-variants as ending
 use Rattle.access.specs.declared.ending.Failure.{Failure}
-use Rattle.access.specs.Endings.{flagged, failureOf}
+use Rattle.access.specs.Endings.{flagged, failureOf, failed}
 use Rattle.access.specs.Program.{Program}
 use Rattle.alike.specs.Like.{Like, Handles}
-use Rattle.alike.proofs.LikeLaws.{cases}
+use Rattle.errors.specs.declared.Checked.{Checked}
+use Rattle.errors.specs.declared.Checked.the-variants.{Fine, Failed}
 use Rattle.errors.specs.Classes.{errorOf, decided}
-use Rattle.errors.specs.AsTheRust.{asTheRust, SecondForgotten, FlagsForgotten, OthersStay, rustChain}
-use Rattle.errors.proofs.ClassLaws.{by-class}
+use Rattle.errors.specs.AsTheRust.{rustChain, rustOf, asTheRust, addedForgotten, SecondForgotten, FlagsDecide, OthersStay}
+use Rattle.errors.specs.Departs.{busFlag, unflagged}
+use Rattle.errors.proofs.MetLaws.{Finds, finds}
+use Rattle.errors.proofs.DepartLaws.{by-rust, both-find, class-is-the-rusts, no-bus}
 
 pub second-forgotten : SecondForgotten
 unfolding asTheRust
 second-forgotten chip nack v x = refl
 
-pub flags-forgotten : FlagsForgotten
+pub flags-decide : FlagsDecide
 unfolding asTheRust
-flags-forgotten chip nack e w = refl
+flags-decide chip nack e w = let s = same-flags w in rw (s .arlo, s .timeout, s .pecerr, s .ovr, s .af, s .berr) refl
+
+no-class : (chip : Chip) (nack : Bool) (e : Error) → asTheRust chip nack (failed e) ≡ failed e
+unfolding asTheRust hasBit
+no-class chip nack e = go (chip .«i2c_v3») nack (chip .ch32v4)
+  where
+    go : (a b c : Bool) → cond (a && false) (failed Timeout) (cond (b && false) (failed Nack) (cond (c && false) (failed Bus) (failed e))) ≡ failed e
+    go true true true = refl
+    go true true false = refl
+    go true false true = refl
+    go true false false = refl
+    go false true true = refl
+    go false true false = refl
+    go false false true = refl
+    go false false false = refl
 
 pub others-stay : OthersStay
 unfolding asTheRust
-others-stay = record { done = λ chip nack v. refl; failures = λ chip nack e. refl }
+others-stay = record { done = λ chip nack v. refl; failures = no-class }
 
--- what our check finds in a word is what the Rust's chain of ifs finds in it
+-- what our check finds in a word is, read as the Rust's, what the Rust's chain of ifs finds in it
 pub chain-alike : (chip : Chip) (nack : Bool) (w : ℕ) {h h′ : Failure → Program} {p p′ : Program} → Handles (asTheRust chip nack) h h′ → Like (asTheRust chip nack) p p′
     → Like (asTheRust chip nack) (decided (errorOf chip nack w) h p) (rustChain chip nack w h′ p′)
 chain-alike chip nack w {h} {h′} {p} {p′} H K =
-    subst (λ (q : Program). Like (asTheRust chip nack) q (rustChain chip nack w h′ p′)) (by-class chip nack w h p)
-    (cases (hasBit ARLO w) (same Arbitration)
-    (cases (chip .«i2c_v3» && hasBit TIMEOUT w) (same Timeout)
-    (cases (hasBit PECERR w) (same Crc)
-    (cases (hasBit OVR w) (same Overrun)
-    (cases (nack && hasBit AF w) (same Nack)
-    (cases (chip .ch32v4 && hasBit BERR w) (same Bus) K))))))
+    subst (Like (asTheRust chip nack) (decided (errorOf chip nack w) h p)) (by-rust chip nack w h′ p′)
+    (go (errorOf chip nack w) (rustOf chip nack w) refl (finds chip nack w) (both-find chip nack w))
   where
-    same : (e : Error) → Like (asTheRust chip nack) (h (flagged e (errorFlags w))) (h′ (failureOf e))
-    same e = H .after (flagged e (errorFlags w)) (failureOf e) (flags-forgotten chip nack e (errorFlags w))
+    -- the flags of a found error are the word's, so the Rust finds in them what it finds in the word
+    found : (f g : Failure) → rustOf chip nack w ≡ Failed g → Finds w f → asTheRust chip nack (ending.Failed f) ≡ ending.Failed g
+    found f g q u =
+        ap (λ (x : ℕ). asTheRust chip nack (ending.Failed (flagged (f .error) x))) (u .flags)
+        ∙ flags-decide chip nack (f .error) w
+        ∙ sym (by-rust chip nack w ending.Failed (failed (f .error)))
+        ∙ ap (λ (c : Checked). decided c ending.Failed (failed (f .error))) q
+
+    go : (c d : Checked) → rustOf chip nack w ≡ d → decided c (Finds w) (Unit {0}) → decided c (λ f. true) false ≡ decided d (λ f. true) false → Like (asTheRust chip nack) (decided c h p) (decided d h′ p′)
+    go Fine Fine q u b = K
+    go (Failed f) (Failed g) q u b = H .after f g (found f g q u)
+    go Fine (Failed g) q u b = absurd (true≢false (sym b))
+    go (Failed f) Fine q u b = absurd (true≢false b)
+
+-- where BERR is no error in the word, it is enough to forget the flags
+pub chain-same : (chip : Chip) (nack : Bool) (w : ℕ) → busFlag chip w ≡ false → {h h′ : Failure → Program} {p p′ : Program} → Handles addedForgotten h h′ → Like addedForgotten p p′
+    → Like addedForgotten (decided (errorOf chip nack w) h p) (rustChain chip nack w h′ p′)
+chain-same chip nack w e {h} {h′} {p} {p′} H K =
+    subst (Like addedForgotten (decided (errorOf chip nack w) h p)) (ap (λ (c : Checked). decided c h′ p′) (no-bus chip nack w e) ∙ by-rust chip nack w h′ p′) (go (errorOf chip nack w))
+  where
+    go : (c : Checked) → Like addedForgotten (decided c h p) (decided (unflagged c) h′ p′)
+    go Fine = K
+    go (Failed f) = H .after f (failureOf (f .error)) refl

@@ -21,34 +21,34 @@ use Rattle.errors.specs.Classes.{class, only, firstOf, errorOf, decided}
 abbrev found : Error → ℕ → Failure
 found e w = flagged e (errorFlags w)
 
-decided-if {ℓ} : {X : Type ℓ} (t : Bool) (f : Failure) (c : Checked) (h : Failure → X) (p : X) → decided (cond t (Failed f) c) h p ≡ cond t (h f) (decided c h p)
+pub decided-if {ℓ} : {X : Type ℓ} (t : Bool) (f : Failure) (c : Checked) (h : Failure → X) (p : X) → decided (cond t (Failed f) c) h p ≡ cond t (h f) (decided c h p)
 decided-if true f c h p = refl
 decided-if false f c h p = refl
 
--- a chain of ifs as the Rust's goes by the class
+-- a chain of ifs in the list's order goes by the class
 pub by-class {ℓ} : {X : Type ℓ} (chip : Chip) (nack : Bool) (w : ℕ) (h : Failure → X) (p : X)
     → cond (hasBit ARLO w) (h (found Arbitration w))
+    (cond (chip .ch32v4 && hasBit BERR w) (h (found Bus w))
     (cond (chip .«i2c_v3» && hasBit TIMEOUT w) (h (found Timeout w))
     (cond (hasBit PECERR w) (h (found Crc w))
     (cond (hasBit OVR w) (h (found Overrun w))
-    (cond (nack && hasBit AF w) (h (found Nack w))
-    (cond (chip .ch32v4 && hasBit BERR w) (h (found Bus w)) p)))))
+    (cond (nack && hasBit AF w) (h (found Nack w)) p)))))
     ≡ decided (errorOf chip nack w) h p
 unfolding errorOf
-by-class chip nack w h p = go (chip .«i2c_v3») nack (chip .ch32v4)
+by-class chip nack w h p = go (chip .ch32v4) (chip .«i2c_v3») nack
   where
-    go : (v3 n v4 : Bool)
+    go : (v4 v3 n : Bool)
         → cond (hasBit ARLO w) (h (found Arbitration w))
+        (cond (v4 && hasBit BERR w) (h (found Bus w))
         (cond (v3 && hasBit TIMEOUT w) (h (found Timeout w))
         (cond (hasBit PECERR w) (h (found Crc w))
         (cond (hasBit OVR w) (h (found Overrun w))
-        (cond (n && hasBit AF w) (h (found Nack w))
-        (cond (v4 && hasBit BERR w) (h (found Bus w)) p)))))
+        (cond (n && hasBit AF w) (h (found Nack w)) p)))))
         ≡ decided
         (firstOf
-        (class ARLO Arbitration ∷ only v3 (class TIMEOUT Timeout)
-        ++ class PECERR Crc ∷ class OVR Overrun ∷ only n (class AF Nack)
-        ++ only v4 (class BERR Bus))
+        (class ARLO Arbitration ∷ only v4 (class BERR Bus)
+        ++ only v3 (class TIMEOUT Timeout)
+        ++ class PECERR Crc ∷ class OVR Overrun ∷ only n (class AF Nack))
         w) h p
     go true true true = simp decided-if
     go true true false = simp decided-if
@@ -62,11 +62,11 @@ by-class chip nack w h p = go (chip .«i2c_v3») nack (chip .ch32v4)
 -- the same of the class itself
 pub as-ifs : (chip : Chip) (nack : Bool) (w : ℕ)
     → cond (hasBit ARLO w) (Failed (found Arbitration w))
+    (cond (chip .ch32v4 && hasBit BERR w) (Failed (found Bus w))
     (cond (chip .«i2c_v3» && hasBit TIMEOUT w) (Failed (found Timeout w))
     (cond (hasBit PECERR w) (Failed (found Crc w))
     (cond (hasBit OVR w) (Failed (found Overrun w))
-    (cond (nack && hasBit AF w) (Failed (found Nack w))
-    (cond (chip .ch32v4 && hasBit BERR w) (Failed (found Bus w)) Fine)))))
+    (cond (nack && hasBit AF w) (Failed (found Nack w)) Fine)))))
     ≡ errorOf chip nack w
 as-ifs chip nack w = by-class chip nack w Failed Fine ∙ same (errorOf chip nack w)
   where
@@ -79,10 +79,10 @@ pub no-flags : (chip : Chip) (nack : Bool) (w : ℕ) → errorFlags w ≡ 0 → 
 no-flags chip nack w z =
     let f = clear-flags w z in
     sym (as-ifs chip nack w)
-    ∙ rw (f .arlo, f .timeout, f .pecerr, f .ovr, f .af, f .berr)
-    (rest (chip .«i2c_v3») nack (chip .ch32v4))
+    ∙ rw (f .arlo, f .berr, f .timeout, f .pecerr, f .ovr, f .af)
+    (rest (chip .ch32v4) (chip .«i2c_v3») nack)
   where
-    rest : (a b c : Bool) → cond (a && false) (Failed (found Timeout w)) (cond (b && false) (Failed (found Nack w)) (cond (c && false) (Failed (found Bus w)) Fine)) ≡ Fine
+    rest : (a b c : Bool) → cond (a && false) (Failed (found Bus w)) (cond (b && false) (Failed (found Timeout w)) (cond (c && false) (Failed (found Nack w)) Fine)) ≡ Fine
     rest true true true = refl
     rest true true false = refl
     rest true false true = refl
