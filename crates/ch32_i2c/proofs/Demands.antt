@@ -20,7 +20,7 @@ use Rattle.access.specs.Record.{Shown, noMore, shownOf, DifferInPayload, Same, 
 use Rattle.access.specs.Machine.{shownFrom}
 use Rattle.access.proofs.NumberLaws.{number-injective}
 use Rattle.alike.specs.Like.{forgetEnd, forgetting}
-use Rattle.errors.proofs.CheckLaws.{others-stay, second-forgotten, flags-forgotten}
+use Rattle.errors.proofs.CheckLaws.{others-stay, second-forgotten, flags-decide}
 use Rattle.operations.specs.Operations.{operationsOf}
 use Rattle.operations.proofs.SumLaws.{written-runs}
 use Rattle.block.specs.Bytes32.{blockSize}
@@ -471,7 +471,7 @@ demand-2 =
       rusts = rusts;
       counts = slaveIs.counts-as-the-rust;
       second = second;
-      flags = flags-forgotten;
+      flags = flags-decide;
       others = others;
       returns = returns;
       refused = rust-refused;

@@ -43,7 +43,7 @@ use Rattle.access.specs.Program as program
 use Rattle.access.specs.Record.{Shown, noMore, shownOf, Same, EndsAlike}
 use Rattle.alike.specs.Like.{forgetEnd, forgetting}
 use Rattle.errors.specs.Met.{isMet}
-use Rattle.errors.specs.AsTheRust.{asTheRust, FlagsForgotten}
+use Rattle.errors.specs.AsTheRust.{asTheRust, FlagsDecide}
 use Rattle.operations.specs.Operations.{operationsOf}
 use Rattle.operations.specs.Runs.{isEmpty}
 use Rattle.block.specs.Bytes32.{blockSize}
@@ -432,8 +432,8 @@ pub record Demand2 : Type 0 where
   -- it lacks a reply's second count, and of the first nothing is forgotten: without the second a reply IS the Rust's program
   pub counts : CountsAsTheRust
   pub second : (chip : ℕ) (reply : List ℕ) (v x : ℕ) → endAsTheRust (respondToRead chip reply) (returnedBoth v x) ≡ returned v
-  -- it lacks the flags of an error, and of the error nothing is forgotten
-  pub flags : FlagsForgotten
+  -- it lacks the flags of an error, and where a check decided its error is the class that its own order finds in the word
+  pub flags : FlagsDecide
   -- nothing is forgotten of any other end that no error check decided
   pub others : (c : Call) (e : Error) → endAsTheRust c (failed e) ≡ failed e
   pub returns : (c : Call) (v : ℕ) → endAsTheRust c (returned v) ≡ returned v
