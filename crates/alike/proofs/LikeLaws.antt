@@ -1,6 +1,6 @@
 -- A lemma for each combinator of Program.antt: alike parts make alike wholes.
 -- Assumes nothing.
-use mathlib.Core.Path.{_≡_, refl, sym, ap}
+use mathlib.Core.Path.{_≡_, refl, sym, ap, _∙_}
 use mathlib.Core.Bool.{Bool, true, false, cond}
 use mathlib.Core.List.{List, [], _∷_}
 use mathlib.Core.Option.{some}
@@ -11,7 +11,7 @@ use Rattle.access.specs.declared.ending.Failure.{Failure}
 use Rattle.access.specs.declared.ending.Ending.{Ending}
 use Rattle.access.specs.declared.ending.Ending.the-variants.{Failed}
 use Rattle.access.specs.Endings.{failureOf, failed}
-use Rattle.access.specs.Program.{Access, Program, finish, access, keep, Blocking, pure, throw, readRegister, writeRegister, modify, sendData, store, if_then_else_, onlyIf, orElse, onDrop, while, forEach, spin, Turn, continue, return, turned, spinFrom, loop, late, checkTimeout, callOf, _>>_, _>>=_}
+use Rattle.access.specs.Program.{Access, Program, finish, access, keep, cut, Blocking, pure, throw, readRegister, writeRegister, modify, sendData, store, if_then_else_, onlyIf, orElse, onDrop, while, forEach, spin, Turn, continue, return, turned, spinFrom, loop, late, checkTimeout, callOf, _>>_, _>>=_}
 use Rattle.access.specs.Record.{noMore, event, arrival, answerTo, shownOf}
 use Rattle.alike.specs.Like.{forgetting, Like, Handles, Alike}
 
@@ -35,13 +35,16 @@ module _ {forget : Ending → Ending} where
   cases true x y = x
   cases false x y = y
 
+  pub cut-like : Like forget cut cut
+  cut-like = record { same = λ at answers. refl }
+
   turns : {t t′ : Program → Program} (n : ℕ) → ((p q : Program) → Like forget p q → Like forget (t p) (t′ q)) → Like forget (spin n t) (spin n t′)
-  turns zero f = record { same = λ at answers. refl }
+  turns zero f = cut-like
   turns (suc n) f = f _ _ (turns n f)
 
   turns-from : {S : Type 0} {t t′ : S → (S → Program) → Program} (n : ℕ) (s : S)
       → ((s : S) (next next′ : S → Program) → ((s : S) → Like forget (next s) (next′ s)) → Like forget (t s next) (t′ s next′)) → Like forget (spinFrom n s t) (spinFrom n s t′)
-  turns-from zero s f = record { same = λ at answers. refl }
+  turns-from zero s f = cut-like
   turns-from (suc n) s f = f s _ _ (λ s. turns-from n s f)
 
   turned-like : {S A : Type 0} {next next′ : S → Program} {k k′ : A → Program} (t : Turn S A) → ((s : S) → Like forget (next s) (next′ s)) → ((a : A) → Like forget (k a) (k′ a))
@@ -110,3 +113,9 @@ module _ {forget : Ending → Ending} where
 
   pub calls : {A : Type 0} {m m′ : Blocking A} {done done′ : A → Ending} (turns : ℕ) → Alike forget m m′ → ((a : A) → forget (done a) ≡ done′ a) → Like forget (callOf m done turns) (callOf m′ done′ turns)
   calls turns x e = x .like turns (record { after = λ f g q. ends q }) (λ a. ends (e a))
+
+-- ---- two ways to forget
+
+-- one program that is like another in two ways: both forget the same of what is seen of it
+pub forget-alike : {F G : Ending → Ending} {p q : Program} → Like F p q → Like G p q → (at : ℕ) (answers : List ℕ) → forgetting F (shownOf at p answers) ≡ forgetting G (shownOf at p answers)
+forget-alike f g at answers = sym (f .same at answers) ∙ g .same at answers

@@ -1,27 +1,32 @@
 -- Our error check is the Rust's, its end read as the Rust's.
 -- Assumes nothing.
 use mathlib.Core.Path.{_≡_, refl, sym, ap, _∙_, subst}
-use mathlib.Core.Bool.{Bool, true, false, cond, _&&_, true≢false}
+use mathlib.Core.Bool.{Bool, true, false, cond, not, _&&_, true≢false}
 use Prim.Native.Nat.{ℕ}
+use lib.Dec.{eqb}
 use Rattle.registers.specs.declared.chip.Chip.{Chip}
 use Rattle.registers.specs.Word.{hasBit}
-use Rattle.registers.specs.Flags.{errorFlags}
-use Rattle.registers.proofs.FlagLaws.{same-flags, clear-flags}
+use Rattle.registers.specs.declared.register.Register.the-variants.{Star1}
+use Rattle.registers.specs.Bits.{BERR}
+use Rattle.registers.specs.Flags.{errorFlags, clearError}
+use Rattle.registers.proofs.FlagLaws.{same-flags}
 use Rattle.access.specs.declared.ending.Error.{Error}
 use Rattle.access.specs.declared.ending.Error.the-variants.{Bus, Nack, Timeout}
 use Rattle.access.specs.declared.ending.Ending.{Ending}
 use Rattle.access.specs.declared.ending.Ending.the-variants as ending
 use Rattle.access.specs.declared.ending.Failure.{Failure}
 use Rattle.access.specs.Endings.{flagged, failureOf, failed}
-use Rattle.access.specs.Program.{Program}
-use Rattle.alike.specs.Like.{Like, Handles}
+use Rattle.access.specs.Program.{Program, Blocking, cut, writeRegister, onlyIf, _>>_}
+use Rattle.alike.specs.Like.{Like, Handles, Alike}
+use Rattle.alike.proofs.LikeLaws.{accesses, cases, cut-like}
 use Rattle.errors.specs.declared.Checked.{Checked}
 use Rattle.errors.specs.declared.Checked.the-variants.{Fine, Failed}
 use Rattle.errors.specs.Classes.{errorOf, decided}
+use Rattle.errors.specs.Check.{check-errors, check-until-berr}
 use Rattle.errors.specs.AsTheRust.{rustChain, rustOf, asTheRust, addedForgotten, SecondForgotten, FlagsDecide, OthersStay}
-use Rattle.errors.specs.Departs.{busFlag, unflagged}
+use Rattle.errors.specs.Departs.{unflagged}
 use Rattle.errors.proofs.MetLaws.{Finds, finds}
-use Rattle.errors.proofs.DepartLaws.{by-rust, both-find, class-is-the-rusts, no-bus}
+use Rattle.errors.proofs.DepartLaws.{by-rust, both-find, class-is-the-rusts}
 
 pub second-forgotten : SecondForgotten
 unfolding asTheRust
@@ -70,12 +75,35 @@ chain-alike chip nack w {h} {h′} {p} {p′} H K =
     go Fine (Failed g) q u b = absurd (true≢false (sym b))
     go (Failed f) Fine q u b = absurd (true≢false b)
 
--- where BERR is no error in the word, it is enough to forget the flags
-pub chain-same : (chip : Chip) (nack : Bool) (w : ℕ) → busFlag chip w ≡ false → {h h′ : Failure → Program} {p p′ : Program} → Handles addedForgotten h h′ → Like addedForgotten p p′
+-- without BERR in the word it is enough to forget the flags
+chain-same : (chip : Chip) (nack : Bool) (w : ℕ) → hasBit BERR w ≡ false → {h h′ : Failure → Program} {p p′ : Program} → Handles addedForgotten h h′ → Like addedForgotten p p′
     → Like addedForgotten (decided (errorOf chip nack w) h p) (rustChain chip nack w h′ p′)
 chain-same chip nack w e {h} {h′} {p} {p′} H K =
-    subst (Like addedForgotten (decided (errorOf chip nack w) h p)) (ap (λ (c : Checked). decided c h′ p′) (no-bus chip nack w e) ∙ by-rust chip nack w h′ p′) (go (errorOf chip nack w))
+    subst (Like addedForgotten (decided (errorOf chip nack w) h p)) (ap (λ (c : Checked). decided c h′ p′) (class-is-the-rusts .without-berr chip nack w e) ∙ by-rust chip nack w h′ p′) (go (errorOf chip nack w))
   where
     go : (c : Checked) → Like addedForgotten (decided c h p) (decided (unflagged c) h′ p′)
     go Fine = K
     go (Failed f) = H .after f (failureOf (f .error)) refl
+
+-- ---- both checks up to a word with BERR
+
+-- the Rust's check, going no further there
+abbrev pub rust-until-berr : Chip → Bool → ℕ → Blocking (Unit {0})
+rust-until-berr chip nack w = λ n h k. cond (hasBit BERR w) cut ((onlyIf (not (eqb (errorFlags w) 0)) (writeRegister Star1 (clearError (errorFlags w))) >> λ n h k. rustChain chip nack w h (k tt)) n h k)
+
+pub until-alike : (chip : Chip) (nack : Bool) (w : ℕ) → Alike (asTheRust chip nack) (check-until-berr chip nack w) (rust-until-berr chip nack w)
+unfolding check-errors
+until-alike chip nack w =
+    record {
+      like = λ n H K. cases (hasBit BERR w) cut-like (cases (not (eqb (errorFlags w) 0)) (accesses (λ _. chain-alike chip nack w H (K tt))) (chain-alike chip nack w H (K tt)))
+    }
+
+pub until-same : (chip : Chip) (nack : Bool) (w : ℕ) → Alike addedForgotten (check-until-berr chip nack w) (rust-until-berr chip nack w)
+unfolding check-errors
+until-same chip nack w = record { like = λ n {h} {h′} {k} {k′} H K. go n h h′ k k′ H K (hasBit BERR w) refl }
+  where
+    go : (n : ℕ) (h h′ : Failure → Program) (k k′ : Unit {0} → Program) → Handles addedForgotten h h′ → ((u : Unit {0}) → Like addedForgotten (k u) (k′ u)) → (b : Bool) → hasBit BERR w ≡ b
+        → Like addedForgotten (cond b cut (check-errors chip nack w n h k))
+        (cond b cut ((onlyIf (not (eqb (errorFlags w) 0)) (writeRegister Star1 (clearError (errorFlags w))) >> λ n h k. rustChain chip nack w h (k tt)) n h′ k′))
+    go n h h′ k k′ H K true e = cut-like
+    go n h h′ k k′ H K false e = cases (not (eqb (errorFlags w) 0)) (accesses (λ _. chain-same chip nack w e H (K tt))) (chain-same chip nack w e H (K tt))
