@@ -20,7 +20,9 @@ use Rattle.access.specs.Record.{Shown, noMore, shownOf, DifferInPayload, Same, 
 use Rattle.access.specs.Machine.{shownFrom}
 use Rattle.access.proofs.NumberLaws.{number-injective}
 use Rattle.alike.specs.Like.{forgetEnd, forgetting}
+use Rattle.errors.specs.AsTheRust.{addedForgotten}
 use Rattle.errors.proofs.CheckLaws.{others-stay, second-forgotten, flags-decide}
+use Rattle.errors.proofs.DepartLaws.{class-is-the-rusts}
 use Rattle.operations.specs.Operations.{operationsOf}
 use Rattle.operations.proofs.SumLaws.{written-runs}
 use Rattle.block.specs.Bytes32.{blockSize}
@@ -59,7 +61,7 @@ use Rattle.ch32_i2c.specs.Manual.{Keeps}
 use Rattle.ch32_i2c.specs.Init as cInit
 use Rattle.ch32_i2c.specs.Transfer.{callOf, masterBegin}
 use Rattle.ch32_i2c.specs.InitSlave as cInitSlave
-use Rattle.ch32_i2c.specs.Demands.{Call, init, transaction, writeRead, write, read, initSlave, listen, respondToWrite, respondToRead, entryOf, Reads, unknown, ownRefusal, refusalOf, Accepted, timedRefusal, rust, ours, endAsTheRust, timedShown, theRusts, NoneAdded, canEnd, IsMet, takes, nothingToDo, Over, Demand1, Demand2, Demand3, SeenAlike, SameRuns, transactions, writeReads, writes, reads, bytesOfRun, writtenRuns, oursAfter, recordAfter, endAfter, struckAfter, Records, RecordsRust, runsShown, wordsOf, OfDemand2, RepliesEnd, SeenSame}
+use Rattle.ch32_i2c.specs.Demands.{Call, init, transaction, writeRead, write, read, initSlave, listen, respondToWrite, respondToRead, entryOf, Reads, unknown, ownRefusal, refusalOf, Accepted, timedRefusal, rust, ours, checksOf, checkDeparts, endAsTheRust, timedShown, theRusts, NoneAdded, canEnd, IsMet, takes, nothingToDo, Over, Demand1, Demand2, Demand3, SeenAlike, SameRuns, transactions, writeReads, writes, reads, bytesOfRun, writtenRuns, oursAfter, recordAfter, endAfter, struckAfter, Records, RecordsBy, RecordsRust, IsTheRust, BerrUnread, EndsMoved, runsShown, wordsOf, OfDemand2, RepliesEnd, SeenSame}
 use Rattle.ch32_i2c.proofs.Recorded.{record-is, end-is, struck-same}
 use Rattle.ch32_i2c.proofs.PayloadLaws.{differ-same, Answered, answered, answers-same}
 use Rattle.ch32_i2c.proofs.CallsRun.{parts, Runs, begin-left, response-left, transfer-runs, write-runs, response-runs, unread-runs, init-runs, init-slave-runs, config-unreserved, shownTimed, small}
@@ -67,6 +69,7 @@ use Rattle.ch32_i2c.proofs.SlaveEnds.{reply-ends, reply-end, listen-end
 use Rattle.ch32_i2c.proofs.Begins.{transaction-starts, write-read-starts, frame-starts, read-starts, transfer-begins, response-begins, init-begins, init-slave-begins}
 use Rattle.ch32_i2c.proofs.Goes.{Is15, init-goes, master-goes, init-slave-goes, slave-goes}
 use Rattle.ch32_i2c.proofs.RustRefuses.{master-refused, master-unadded, timing-added, config-faulty, config-unadded}
+use Rattle.ch32_i2c.proofs.Moved.{unmoved-end, moved-end, berr-undecided}
 use Rattle.ch32_i2c.proofs.RunsRecord.{transaction-runs}
 use Rattle.ch32_i2c.proofs.Words.{second-false, address-passed, Obey, struck-keeps, transfer-obeys, init-slave-obeys, init-obeys, obeys-free}
 use Rattle.ch32_i2c.proofs.Refuses.{transfer-refuses, response-refuses, init-refuses, init-slave-refuses}
@@ -410,15 +413,51 @@ makes : (c : Call) (block bytes : List ℕ) → Reads c bytes → Accepted c blo
     → Makes (entryOf c) block bytes answers (ours turns c (length bytes) answers)
 makes c block bytes k a turns answers h = subst (λ (s : Shown). Makes (entryOf c) block bytes answers s) (accepted-ours c block bytes a turns answers h) (runs c block bytes k a .makes answers)
 
-rusts : (c : Call) (block bytes : List ℕ) → Reads c bytes → Accepted c block bytes → (turns : ℕ) (answers : List ℕ) → length answers < turns → RecordsRust c block bytes answers (rust turns c (length bytes) answers)
-rusts c block bytes k a turns answers h =
+-- what is seen is a text's that is ours with something of its end forgotten
+recorded-by : (forget : Ending → Ending) (c : Call) (block bytes : List ℕ) → Reads c bytes → Accepted c block bytes → (turns : ℕ) (answers : List ℕ) → length answers < turns
+    → (s : Shown) → s ≡ forgetting forget (ours turns c (length bytes) answers) → RecordsBy forget c block bytes answers s
+recorded-by forget c block bytes k a turns answers h s q =
     let r = seen-ours c block bytes k a turns answers h in
-    let e = sym (as-the-rust c (length bytes) turns answers) in
     record {
-      record-is = r .record-is ∙ ap recordIn e;
-      end-is = ap (forgetEnd (endAsTheRust c)) (r .end-is) ∙ ap (λ (s : Shown). s .end) e;
-      read-is = r .read-is ∙ ap (λ (s : Shown). stored (s .arrivals) bytes) e;
+      record-is = r .record-is ∙ ap recordIn (sym q);
+      end-is = ap (forgetEnd forget) (r .end-is) ∙ ap (λ (s : Shown). s .end) (sym q);
+      read-is = r .read-is ∙ ap (λ (s : Shown). stored (s .arrivals) bytes) (sym q);
     }
+
+rusts : (c : Call) (block bytes : List ℕ) → Reads c bytes → Accepted c block bytes → (turns : ℕ) (answers : List ℕ) → length answers < turns → RecordsRust c block bytes answers (rust turns c (length bytes) answers)
+rusts c block bytes k a turns answers h = recorded-by (endAsTheRust c) c block bytes k a turns answers h (rust turns c (length bytes) answers) (as-the-rust c (length bytes) turns answers)
+
+-- ---- where it is the Rust unchanged
+
+unmoved : (c : Call) (block bytes : List ℕ) → Reads c bytes → Accepted c block bytes → (turns : ℕ) (answers : List ℕ) → length answers < turns
+    → checkDeparts (checksOf c) (endAfter c block bytes answers) ≡ false → IsTheRust c block bytes answers (rust turns c (length bytes) answers)
+unmoved c block bytes k a turns answers h d =
+    let r = rusts c block bytes k a turns answers h in
+    record { record-is = r .record-is; end-is = sym (unmoved-end c (endAfter c block bytes answers) (demand-1 .ends c block bytes k a answers) d) ∙ r .end-is; read-is = r .read-is }
+
+moved : (c : Call) (block bytes : List ℕ) → Reads c bytes → Accepted c block bytes → (turns : ℕ) (answers : List ℕ) → length answers < turns
+    → checkDeparts (checksOf c) (endAfter c block bytes answers) ≡ true → EndsMoved (endAfter c block bytes answers) (rust turns c (length bytes) answers .end)
+moved c block bytes k a turns answers h d =
+    subst (EndsMoved (endAfter c block bytes answers)) (rusts c block bytes k a turns answers h .end-is) (moved-end c (endAfter c block bytes answers) (demand-1 .ends c block bytes k a answers) d)
+
+without-berr : (c : Call) (block bytes : List ℕ) → Reads c bytes → Accepted c block bytes → (turns : ℕ) (answers : List ℕ) → length answers < turns → BerrUnread turns c (length bytes) answers
+    → IsTheRust c block bytes answers (rust turns c (length bytes) answers)
+without-berr (init chip input frequency duty) block bytes k a turns answers h u = unmoved (init chip input frequency duty) block bytes k a turns answers h refl
+without-berr (transaction chip address list written) block bytes k a turns answers h u =
+    recorded-by addedForgotten (transaction chip address list written) block bytes k a turns answers h _ (masterIs.same-without-berr (callOf chip address kind.Transaction) (lentWith list written (length bytes)) turns answers u)
+without-berr (writeRead chip address written) block bytes k a turns answers h u =
+    recorded-by addedForgotten (writeRead chip address written) block bytes k a turns answers h _ (masterIs.same-without-berr (callOf chip address kind.WriteRead) (lentWith [] written (length bytes)) turns answers u)
+without-berr (write chip address option written) block bytes k a turns answers h u =
+    recorded-by addedForgotten (write chip address option written) block bytes k a turns answers h _ (masterIs.same-without-berr (callOf chip address (kind.Write (frameOptionsOf option))) (lentWith [] written 0) turns answers u)
+without-berr (read chip address option) block bytes k a turns answers h u =
+    recorded-by addedForgotten (read chip address option) block bytes k a turns answers h _ (masterIs.same-without-berr (callOf chip address (kind.Read (frameOptionsOf option))) (lentWith [] [] (length bytes)) turns answers u)
+without-berr (initSlave ten address has second general stretching) block bytes k a turns answers h u = unmoved (initSlave ten address has second general stretching) block bytes k a turns answers h refl
+without-berr (listen chip) block bytes k a turns answers h u =
+    recorded-by addedForgotten (listen chip) block bytes k a turns answers h _ (slaveIs.same-without-berr (chipOf chip) Listen (slaveLent.lentWith [] 0) turns answers u)
+without-berr (respondToWrite chip) block bytes k a turns answers h u =
+    recorded-by addedForgotten (respondToWrite chip) block bytes k a turns answers h _ (slaveIs.same-without-berr (chipOf chip) RespondToWrite (slaveLent.lentWith [] (length bytes)) turns answers u)
+without-berr (respondToRead chip reply) block bytes k a turns answers h u =
+    recorded-by addedForgotten (respondToRead chip reply) block bytes k a turns answers h _ (slaveIs.same-without-berr (chipOf chip) RespondToRead (slaveLent.lentWith reply 0) turns answers u)
 
 -- runs with joined bytes
 ours-join : (chip address : ℕ) (list written : List ℕ) (room : ℕ) → refusal (callOf chip address kind.Transaction) (lentWith list written room) ≡ none → (turns : ℕ) (answers : List ℕ)
@@ -472,6 +511,11 @@ demand-2 =
       counts = slaveIs.counts-as-the-rust;
       second = second;
       flags = flags-decide;
+      without-ch32v4 = λ c block bytes k a q turns answers h. unmoved c block bytes k a turns answers h (berr-undecided (checksOf c) (endAfter c block bytes answers) q);
+      without-berr = without-berr;
+      unmoved = unmoved;
+      moved = moved;
+      classes = class-is-the-rusts;
       others = others;
       returns = returns;
       refused = rust-refused;

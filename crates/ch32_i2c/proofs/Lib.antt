@@ -23,6 +23,7 @@ pub mod Refuses
 pub mod Paired
 pub mod SlaveEnds
 pub mod RustRefuses
+pub mod Moved
 pub mod Words
 pub mod RunsRecord
 pub mod Demands

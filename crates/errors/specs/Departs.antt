@@ -6,6 +6,7 @@ use Rattle.registers.specs.declared.chip.Chip.{Chip}
 use Rattle.registers.specs.Bits.{BERR, ARLO, AF, OVR, PECERR, TIMEOUT}
 use Rattle.registers.specs.Word.{hasBit}
 use Rattle.registers.specs.Flags.{errorFlags}
+use Rattle.access.specs.declared.ending.Ending.{Ending}
 use Rattle.access.specs.declared.ending.Ending.the-variants as ending
 use Rattle.access.specs.declared.ending.Error.the-variants.{Bus}
 use Rattle.access.specs.declared.ending.Failure.{Failure}
@@ -27,6 +28,11 @@ betweenFlag chip nack w = (chip .«i2c_v3» && hasBit TIMEOUT w) || (hasBit PECE
 -- the words at which the two differ
 abbrev pub departs : Chip → Bool → ℕ → Bool
 departs chip nack w = busFlag chip w && (not (hasBit ARLO w) && betweenFlag chip nack w)
+
+-- an end whose flags are such a word
+abbrev pub endDeparts : Chip → Bool → Ending → Bool
+endDeparts chip nack (ending.Done o) = false
+endDeparts chip nack (ending.Failed f) = departs chip nack (f .flags)
 
 -- the class that was found, without the flags
 abbrev pub unflagged : Checked → Checked
