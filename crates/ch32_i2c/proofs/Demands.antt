@@ -19,8 +19,10 @@ use Rattle.access.specs.Program.{Program, finish}
 use Rattle.access.specs.Record.{Shown, noMore, shownOf, DifferInPayload, Same, SameStruck, EndsAlike, struck}
 use Rattle.access.specs.Machine.{shownFrom}
 use Rattle.access.proofs.NumberLaws.{number-injective}
-use Rattle.alike.specs.Like.{forgetEnd, forgetting}
+use Rattle.alike.specs.Like.{forgetEnd, forgetting, allAllowed}
+use Rattle.alike.proofs.LikeLaws.{nothing-forgotten}
 use Rattle.errors.specs.AsTheRust.{addedForgotten}
+use Rattle.errors.specs.Check.{withoutBerr}
 use Rattle.errors.proofs.CheckLaws.{others-stay, second-forgotten, flags-decide}
 use Rattle.errors.proofs.DepartLaws.{class-is-the-rusts}
 use Rattle.operations.specs.Operations.{operationsOf}
@@ -61,7 +63,7 @@ use Rattle.ch32_i2c.specs.Manual.{Keeps}
 use Rattle.ch32_i2c.specs.Init as cInit
 use Rattle.ch32_i2c.specs.Transfer.{callOf, masterBegin}
 use Rattle.ch32_i2c.specs.InitSlave as cInitSlave
-use Rattle.ch32_i2c.specs.Demands.{Call, init, transaction, writeRead, write, read, initSlave, listen, respondToWrite, respondToRead, entryOf, Reads, unknown, ownRefusal, refusalOf, Accepted, timedRefusal, rust, ours, checksOf, checkDeparts, endAsTheRust, timedShown, theRusts, NoneAdded, canEnd, IsMet, takes, nothingToDo, Over, Demand1, Demand2, Demand3, SeenAlike, SameRuns, transactions, writeReads, writes, reads, bytesOfRun, writtenRuns, oursAfter, recordAfter, endAfter, struckAfter, Records, RecordsBy, RecordsRust, IsTheRust, BerrUnread, EndsMoved, runsShown, wordsOf, OfDemand2, RepliesEnd, SeenSame}
+use Rattle.ch32_i2c.specs.Demands.{Call, init, transaction, writeRead, write, read, initSlave, listen, respondToWrite, respondToRead, entryOf, Reads, unknown, ownRefusal, refusalOf, Accepted, timedRefusal, rust, ours, checksOf, checkDeparts, endAsTheRust, timedShown, theRusts, NoneAdded, canEnd, IsMet, takes, nothingToDo, Over, Demand1, Demand2, Demand3, SeenAlike, SameRuns, transactions, writeReads, writes, reads, bytesOfRun, writtenRuns, oursAfter, recordAfter, endAfter, struckAfter, Records, RecordsBy, RecordsRust, IsTheRust, BerrUnread, hasBerr, EndsMoved, runsShown, wordsOf, OfDemand2, RepliesEnd, SeenSame}
 use Rattle.ch32_i2c.proofs.Recorded.{record-is, end-is, struck-same}
 use Rattle.ch32_i2c.proofs.PayloadLaws.{differ-same, Answered, answered, answers-same}
 use Rattle.ch32_i2c.proofs.CallsRun.{parts, Runs, begin-left, response-left, transfer-runs, write-runs, response-runs, unread-runs, init-runs, init-slave-runs, config-unreserved, shownTimed, small}
@@ -70,6 +72,7 @@ use Rattle.ch32_i2c.proofs.Begins.{transaction-starts, write-read-start
 use Rattle.ch32_i2c.proofs.Goes.{Is15, init-goes, master-goes, init-slave-goes, slave-goes}
 use Rattle.ch32_i2c.proofs.RustRefuses.{master-refused, master-unadded, timing-added, config-faulty, config-unadded}
 use Rattle.ch32_i2c.proofs.Moved.{unmoved-end, moved-end, berr-undecided}
+use Rattle.ch32_i2c.proofs.Unread.{none-has-berr}
 use Rattle.ch32_i2c.proofs.RunsRecord.{transaction-runs}
 use Rattle.ch32_i2c.proofs.Words.{second-false, address-passed, Obey, struck-keeps, transfer-obeys, init-slave-obeys, init-obeys, obeys-free}
 use Rattle.ch32_i2c.proofs.Refuses.{transfer-refuses, response-refuses, init-refuses, init-slave-refuses}
@@ -146,13 +149,6 @@ shown-ours (respondToWrite chip) room q turns answers h = slave-is-ours .same (c
 shown-ours (respondToRead chip reply) room q turns answers h = slave-is-ours .same (chipOf chip) RespondToRead (slaveLent.lentWith reply 0) q turns answers h
 
 -- ---- and our text is the Rust's
-
-nothing-forgotten : (r : Shown) → r ≡ forgetting (λ e. e) r
-nothing-forgotten r = ap (λ (e : Option Ending). record { events = r .events; arrivals = r .arrivals; end = e }) (kept (r .end))
-  where
-    kept : (e : Option Ending) → e ≡ forgetEnd (λ e. e) e
-    kept none = refl
-    kept (some e) = refl
 
 as-the-rust : (c : Call) (room turns : ℕ) (answers : List ℕ) → rust turns c room answers ≡ forgetting (endAsTheRust c) (ours turns c room answers)
 as-the-rust (init chip input frequency duty) room turns answers = nothing-forgotten (timedShown chip turns (timing (chipOf chip) input frequency (cInit.dutyOf duty)) answers)
@@ -459,6 +455,17 @@ without-berr (respondToWrite chip) block bytes k a turns answers h u =
 without-berr (respondToRead chip reply) block bytes k a turns answers h u =
     recorded-by addedForgotten (respondToRead chip reply) block bytes k a turns answers h _ (slaveIs.same-without-berr (chipOf chip) RespondToRead (slaveLent.lentWith reply 0) turns answers u)
 
+unread : (c : Call) (room turns : ℕ) (answers : List ℕ) → allAllowed withoutBerr (ours turns c room answers .events) ≡ true → BerrUnread turns c room answers
+unread (init chip input frequency duty) room turns answers q = refl
+unread (transaction chip address list written) room turns answers q = masterIs.unread-without-berr (callOf chip address kind.Transaction) (lentWith list written room) turns answers q
+unread (writeRead chip address written) room turns answers q = masterIs.unread-without-berr (callOf chip address kind.WriteRead) (lentWith [] written room) turns answers q
+unread (write chip address option written) room turns answers q = masterIs.unread-without-berr (callOf chip address (kind.Write (frameOptionsOf option))) (lentWith [] written 0) turns answers q
+unread (read chip address option) room turns answers q = masterIs.unread-without-berr (callOf chip address (kind.Read (frameOptionsOf option))) (lentWith [] [] room) turns answers q
+unread (initSlave ten address has second general stretching) room turns answers q = refl
+unread (listen chip) room turns answers q = slaveIs.unread-without-berr (chipOf chip) Listen (slaveLent.lentWith [] 0) turns answers q
+unread (respondToWrite chip) room turns answers q = slaveIs.unread-without-berr (chipOf chip) RespondToWrite (slaveLent.lentWith [] room) turns answers q
+unread (respondToRead chip reply) room turns answers q = slaveIs.unread-without-berr (chipOf chip) RespondToRead (slaveLent.lentWith reply 0) turns answers q
+
 -- runs with joined bytes
 ours-join : (chip address : ℕ) (list written : List ℕ) (room : ℕ) → refusal (callOf chip address kind.Transaction) (lentWith list written room) ≡ none → (turns : ℕ) (answers : List ℕ)
     → ours turns (transaction chip address list written) room answers ≡ runsShown (masterOurs.ours (chipOf chip)) turns chip address (joined (cut (operationsOf list) written)) answers
@@ -513,6 +520,10 @@ demand-2 =
       flags = flags-decide;
       without-ch32v4 = λ c block bytes k a q turns answers h. unmoved c block bytes k a turns answers h (berr-undecided (checksOf c) (endAfter c block bytes answers) q);
       without-berr = without-berr;
+      unread =
+          λ c block bytes k a turns answers h q.
+          unread c (length bytes) turns answers
+          (none-has-berr (ours turns c (length bytes) answers .events) (subst (λ (xs : List Seen). hasBerr xs ≡ false) (seen-ours c block bytes k a turns answers h .record-is) q));
       unmoved = unmoved;
       moved = moved;
       classes = class-is-the-rusts;

@@ -24,6 +24,7 @@ pub mod Paired
 pub mod SlaveEnds
 pub mod RustRefuses
 pub mod Moved
+pub mod Unread
 pub mod Words
 pub mod RunsRecord
 pub mod Demands

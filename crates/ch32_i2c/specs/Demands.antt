@@ -43,6 +43,7 @@ use Rattle.access.specs.Program as program
 use Rattle.access.specs.Record.{Shown, noMore, shownOf, Same, EndsAlike}
 use Rattle.alike.specs.Like.{forgetEnd, forgetting}
 use Rattle.errors.specs.Met.{isMet}
+use Rattle.errors.specs.Check.{isBerr}
 use Rattle.errors.specs.AsTheRust.{asTheRust, addedForgotten, FlagsDecide}
 use Rattle.errors.specs.Departs.{endDeparts, ClassIsTheRusts}
 use Rattle.operations.specs.Operations.{operationsOf}
@@ -297,6 +298,18 @@ IsTheRust c = RecordsBy addedForgotten c
 abbrev pub BerrUnread : ℕ → Call → ℕ → List ℕ → Type 0
 BerrUnread turns c room answers = untilBerr turns c room answers ≡ ours turns c room answers
 
+-- a record has an answer to a read of STAR1 with BERR
+abbrev pub seesBerr : Next → Option ℕ → Bool
+seesBerr (next.Read r) none = false
+seesBerr (next.Read r) (some w) = isBerr r w
+seesBerr (next.Write r v) a = false
+seesBerr next.Clock a = false
+seesBerr (next.End e) a = false
+
+abbrev pub hasBerr : List Seen → Bool
+hasBerr [] = false
+hasBerr (x ∷ xs) = seesBerr (x .next) (x .answer) || hasBerr xs
+
 -- ours ends with Bus, and the Rust with another error
 pub record EndsMoved (ours rust : Option Ending) : Type 0 where
   pub bus : forgetEnd addedForgotten ours ≡ some (failed Bus)
@@ -486,6 +499,9 @@ pub record Demand2 : Type 0 where
   -- with ch32v4, for every list of answers in which no word that an error check reads has BERR
   pub without-berr : (c : Call) (block bytes : List ℕ) → Reads c bytes → Accepted c block bytes → (turns : ℕ) (answers : List ℕ) → length answers < turns → BerrUnread turns c (length bytes) answers
       → IsTheRust c block bytes answers (rust turns c (length bytes) answers)
+  -- which is so if no answer to a read of STAR1 in the record has it
+  pub unread : (c : Call) (block bytes : List ℕ) → Reads c bytes → Accepted c block bytes → (turns : ℕ) (answers : List ℕ) → length answers < turns → hasBerr (recordAfter c block bytes answers) ≡ false
+      → BerrUnread turns c (length bytes) answers
   -- and for no others but these: it is, unless the flags of the end are a word at which the two orders differ; there ours ends with Bus, and the
   -- Rust with another error
   pub unmoved : (c : Call) (block bytes : List ℕ) → Reads c bytes → Accepted c block bytes → (turns : ℕ) (answers : List ℕ) → length answers < turns

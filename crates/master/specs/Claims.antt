@@ -9,7 +9,8 @@ use Rattle.registers.specs.declared.chip.Chip.{Chip}
 use Rattle.access.specs.declared.ending.Failure.{Failure}
 use Rattle.access.specs.Program.{Program}
 use Rattle.access.specs.Record.{DifferInPayload, Same, SameStruck}
-use Rattle.alike.specs.Like.{forgetting}
+use Rattle.alike.specs.Like.{forgetting, allAllowed}
+use Rattle.errors.specs.Check.{withoutBerr}
 use Rattle.errors.specs.AsTheRust.{asTheRust, addedForgotten}
 use Rattle.master.specs.declared.call.Call.{Call}
 use Rattle.master.specs.Rust.{Operation, Parts, theRust, transact}
@@ -35,6 +36,10 @@ OursIsTheRust = (c : Call) (l : Lent) (turns : ℕ) (answers : List ℕ) → rus
 abbrev pub SameWithoutBerr : Type 0
 SameWithoutBerr = (c : Call) (l : Lent) (turns : ℕ) (answers : List ℕ) → untilWith turns c l answers ≡ oursWith turns c l answers
     → rustWith turns c l answers ≡ forgetting addedForgotten (oursWith turns c l answers)
+
+-- so where no answer to a read of STAR1 has BERR
+abbrev pub UnreadWithoutBerr : Type 0
+UnreadWithoutBerr = (c : Call) (l : Lent) (turns : ℕ) (answers : List ℕ) → allAllowed withoutBerr (oursWith turns c l answers .events) ≡ true → untilWith turns c l answers ≡ oursWith turns c l answers
 
 -- an address that passes
 abbrev pub Passes : Parts → ℕ → Type 0

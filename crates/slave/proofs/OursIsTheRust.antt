@@ -12,18 +12,18 @@ use Rattle.access.specs.declared.ending.Ending.the-variants.{Failed}
 use Rattle.access.specs.declared.ending.Error.{Error}
 use Rattle.access.specs.Endings.{failed, returned, returnedBoth}
 use Rattle.access.specs.Program.{finish, Blocking}
-use Rattle.alike.specs.Like.{forgetting, Like, Alike}
-use Rattle.alike.proofs.LikeLaws.{accesses, cases, calls, forget-alike}
-use Rattle.errors.specs.Check.{check-errors}
+use Rattle.alike.specs.Like.{forgetting, anyAnswer, Like, Alike}
+use Rattle.alike.proofs.LikeLaws.{accesses, cases, calls, always, nothing-forgotten, forget-alike}
+use Rattle.errors.specs.Check.{check-errors, check-until-berr, withoutBerr}
 use Rattle.errors.specs.AsTheRust.{asTheRust, addedForgotten}
-use Rattle.errors.proofs.CheckLaws.{others-stay, second-forgotten, chain-alike, rust-until-berr, until-alike, until-same}
+use Rattle.errors.proofs.CheckLaws.{others-stay, second-forgotten, chain-alike, rust-until-berr, until-alike, until-same, until-itself, no-berr}
 use Rattle.slave.specs.declared.state.Kind.{Kind}
 use Rattle.slave.specs.declared.state.Kind.the-variants.{Listen, RespondToWrite, RespondToRead}
 use Rattle.slave.specs.Rust as rust
 use Rattle.slave.specs.Ours as our
 use Rattle.slave.specs.Numbers.{commandNumber, statusNumber}
 use Rattle.slave.specs.Calls.{SlaveLent, rustProgramWith, oursProgramWith, rustSlave, oursSlave, untilSlave}
-use Rattle.slave.specs.Claims.{CountsAsTheRust, OursIsTheRust, SameWithoutBerr}
+use Rattle.slave.specs.Claims.{CountsAsTheRust, OursIsTheRust, SameWithoutBerr, UnreadWithoutBerr}
 use Rattle.slave.proofs.TextAlike as text
 
 pub counts-as-the-rust : CountsAsTheRust
@@ -38,18 +38,18 @@ record Plain (forget : Ending → Ending) : Type 0 where
 
 module _ (chip : Chip) where
   -- the text with one check and with another, which is alike
-  program-like : (forget : Ending → Ending) → Plain forget → (check check′ : ℕ → Blocking (Unit {0})) → ((status : ℕ) → Alike forget (check status) (check′ status)) → (turns : ℕ) (x : Kind) (l : SlaveLent)
-      → Like forget (oursProgramWith check turns chip x l) (rustProgramWith check′ turns chip x l)
-  program-like forget plain check check′ a turns Listen l = calls turns (text.blocking-listen-alike forget (plain .failures) chip _ _ a) (λ c. plain .done (commandNumber c))
-  program-like forget plain check check′ a turns RespondToWrite l = calls turns (text.blocking-respond-to-write-alike forget (plain .failures) chip _ _ a (l .room)) (λ n. plain .done n)
+  program-like : (forget : Ending → Ending) → Plain forget → (check check′ : ℕ → Blocking (Unit {0})) → ((status : ℕ) → Alike forget anyAnswer (check status) (check′ status)) → (turns : ℕ) (x : Kind) (l : SlaveLent)
+      → Like forget anyAnswer (oursProgramWith check turns chip x l) (rustProgramWith check′ turns chip x l)
+  program-like forget plain check check′ a turns Listen l = calls turns (text.blocking-listen-alike forget anyAnswer (plain .failures) chip _ _ (λ w q. a w)) (λ c. plain .done (commandNumber c))
+  program-like forget plain check check′ a turns RespondToWrite l = calls turns (text.blocking-respond-to-write-alike forget anyAnswer (plain .failures) chip _ _ (λ w q. a w) (l .room)) (λ n. plain .done n)
   program-like forget plain check check′ a turns RespondToRead l =
-      subst (Like forget (oursProgramWith check turns chip RespondToRead l)) (counts-as-the-rust chip check′ (l .reply) turns (λ f. finish (Failed f)) (λ s. finish (returned (statusNumber s))))
-      (calls turns (text.blocking-respond-to-read-alike forget (plain .failures) chip _ _ a our.Counts (our.counts chip) (l .reply)) (λ c. plain .second (statusNumber (c .status)) (statusNumber (c .second))))
+      subst (Like forget anyAnswer (oursProgramWith check turns chip RespondToRead l)) (counts-as-the-rust chip check′ (l .reply) turns (λ f. finish (Failed f)) (λ s. finish (returned (statusNumber s))))
+      (calls turns (text.blocking-respond-to-read-alike forget anyAnswer (plain .failures) chip _ _ (λ w q. a w) our.Counts (our.counts chip) (l .reply)) (λ c. plain .second (statusNumber (c .status)) (statusNumber (c .second))))
 
   as-the-rust-plain : Plain (asTheRust chip false)
   as-the-rust-plain = record { failures = others-stay .failures chip false; done = others-stay .done chip false; second = second-forgotten chip false }
 
-  check-alike : (status : ℕ) → Alike (asTheRust chip false) (our.slave-handle-errors chip status) (rust.slave-handle-errors chip status)
+  check-alike : (status : ℕ) → Alike (asTheRust chip false) anyAnswer (our.slave-handle-errors chip status) (rust.slave-handle-errors chip status)
   unfolding check-errors rust.slave-handle-errors
   check-alike w = record { like = λ n H K. cases (not (eqb (errorFlags w) 0)) (accesses (λ _. chain-alike chip false w H (K tt))) (chain-alike chip false w H (K tt)) }
 
@@ -58,7 +58,7 @@ added-plain = record { failures = λ e. refl; done = λ v. refl; second = λ v x
 
 pub ours-is-the-rust : OursIsTheRust
 unfolding rustSlave oursSlave
-ours-is-the-rust chip x l turns answers = program-like chip (asTheRust chip false) (as-the-rust-plain chip) _ _ (check-alike chip) turns x l .same 0 answers
+ours-is-the-rust chip x l turns answers = always (program-like chip (asTheRust chip false) (as-the-rust-plain chip) _ _ (check-alike chip) turns x l) 0 answers
 
 -- up to a word with BERR it makes no difference what is forgotten
 until-forgets : (chip : Chip) (x : Kind) (l : SlaveLent) (turns : ℕ) (answers : List ℕ) → forgetting (asTheRust chip false) (untilSlave turns chip x l answers) ≡ forgetting addedForgotten (untilSlave turns chip x l answers)
@@ -74,3 +74,15 @@ same-without-berr chip x l turns answers e =
     ∙ ap (forgetting (asTheRust chip false)) (sym e)
     ∙ until-forgets chip x l turns answers
     ∙ ap (forgetting addedForgotten) e
+
+-- without a word of STAR1 that has BERR none is read by an error check
+until-like : (chip : Chip) (turns : ℕ) (x : Kind) (l : SlaveLent)
+    → Like (λ e. e) withoutBerr (oursProgramWith (our.slave-handle-errors chip) turns chip x l) (oursProgramWith (check-until-berr chip false) turns chip x l)
+until-like chip turns Listen l = calls turns (text.blocking-listen-alike (λ e. e) withoutBerr (λ e. refl) chip _ _ (λ w q. until-itself chip false w (no-berr w q))) (λ c. refl)
+until-like chip turns RespondToWrite l = calls turns (text.blocking-respond-to-write-alike (λ e. e) withoutBerr (λ e. refl) chip _ _ (λ w q. until-itself chip false w (no-berr w q)) (l .room)) (λ n. refl)
+until-like chip turns RespondToRead l =
+    calls turns (text.blocking-respond-to-read-alike (λ e. e) withoutBerr (λ e. refl) chip _ _ (λ w q. until-itself chip false w (no-berr w q)) our.Counts (our.counts chip) (l .reply)) (λ c. refl)
+
+pub unread-without-berr : UnreadWithoutBerr
+unfolding untilSlave oursSlave
+unread-without-berr chip x l turns answers ok = until-like chip turns x l .same 0 answers ok ∙ sym (nothing-forgotten (oursSlave turns chip x l answers))

@@ -12,7 +12,8 @@ use Rattle.access.specs.declared.ending.Error.the-variants.{ReservedAddress}
 use Rattle.access.specs.Program.{Program, Blocking}
 use Rattle.access.specs.Machine.{shownFrom}
 use Rattle.access.specs.Record.{DifferInPayload, Same, SameStruck}
-use Rattle.alike.specs.Like.{forgetting}
+use Rattle.alike.specs.Like.{forgetting, allAllowed}
+use Rattle.errors.specs.Check.{withoutBerr}
 use Rattle.errors.specs.AsTheRust.{asTheRust, addedForgotten}
 use Rattle.slave.specs.declared.config.SlaveConfig.{SlaveConfig}
 use Rattle.slave.specs.declared.state.Kind.{Kind}
@@ -53,6 +54,10 @@ OursIsTheRust = (chip : Chip) (x : Kind) (l : SlaveLent) (turns : ℕ) (answers 
 abbrev pub SameWithoutBerr : Type 0
 SameWithoutBerr = (chip : Chip) (x : Kind) (l : SlaveLent) (turns : ℕ) (answers : List ℕ) → untilSlave turns chip x l answers ≡ oursSlave turns chip x l answers
     → rustSlave turns chip x l answers ≡ forgetting addedForgotten (oursSlave turns chip x l answers)
+
+-- so where no answer to a read of STAR1 has BERR
+abbrev pub UnreadWithoutBerr : Type 0
+UnreadWithoutBerr = (chip : Chip) (x : Kind) (l : SlaveLent) (turns : ℕ) (answers : List ℕ) → allAllowed withoutBerr (oursSlave turns chip x l answers .events) ≡ true → untilSlave turns chip x l answers ≡ oursSlave turns chip x l answers
 
 -- any two ends
 abbrev pub Any : Ending → Ending → Type 0
