@@ -140,7 +140,6 @@ any-allowed (e ∷ es) = both-true (here (e .answer)) (any-allowed es)
 pub always : {F : Ending → Ending} {p q : Program} → Like F anyAnswer p q → (at : ℕ) (answers : List ℕ) → shownOf at q answers ≡ forgetting F (shownOf at p answers)
 always {p = p} f at answers = f .same at answers (any-allowed (shownOf at p answers .events))
 
-
 pub nothing-forgotten : (r : Shown) → r ≡ forgetting (λ e. e) r
 nothing-forgotten r = ap (λ (e : Option Ending). record { events = r .events; arrivals = r .arrivals; end = e }) (kept (r .end))
   where

@@ -95,7 +95,7 @@ pub until-alike : (chip : Chip) (nack : Bool) (w : ℕ) → Alike (asTheRust chi
 unfolding check-errors
 until-alike chip nack w =
     record {
-      like = λ n H K. cases (hasBit BERR w) cut-like (cases (not (eqb (errorFlags w) 0)) (accesses (λ _. chain-alike chip nack w H (K tt))) (chain-alike chip nack w H (K tt)))
+      like = λ n H K. cases (hasBit BERR w) cut-like (cases (not (eqb (errorFlags w) 0)) (accesses (λ _. chain-alike chip nack w H (K tt))) (chain-alike chip nack w H (K tt)));
     }
 
 pub until-same : (chip : Chip) (nack : Bool) (w : ℕ) → Alike addedForgotten anyAnswer (check-until-berr chip nack w) (rust-until-berr chip nack w)
@@ -119,8 +119,10 @@ no-berr w = go (hasBit BERR w)
 
 pub until-itself : {allowed : Access → ℕ → Bool} (chip : Chip) (nack : Bool) (w : ℕ) → hasBit BERR w ≡ false → Alike (λ e. e) allowed (check-errors chip nack w) (check-until-berr chip nack w)
 unfolding check-errors
-until-itself {allowed} chip nack w e = record { like = λ n {h} {h′} {k} {k′} H K. subst (λ (b : Bool). Like (λ e. e) allowed (check-errors chip nack w n h k) (cond b cut (check-errors chip nack w n h′ k′))) (sym e)
-    (cases (not (eqb (errorFlags w) 0)) (accesses (λ _. go (errorOf chip nack w) h h′ (k tt) (k′ tt) H (K tt))) (go (errorOf chip nack w) h h′ (k tt) (k′ tt) H (K tt))) }
+until-itself {allowed} chip nack w e = record {
+  like = λ n {h} {h′} {k} {k′} H K. subst (λ (b : Bool). Like (λ e. e) allowed (check-errors chip nack w n h k) (cond b cut (check-errors chip nack w n h′ k′))) (sym e)
+      (cases (not (eqb (errorFlags w) 0)) (accesses (λ _. go (errorOf chip nack w) h h′ (k tt) (k′ tt) H (K tt))) (go (errorOf chip nack w) h h′ (k tt) (k′ tt) H (K tt)));
+}
   where
     go : (c : Checked) (h h′ : Failure → Program) (p p′ : Program) → Handles (λ e. e) allowed h h′ → Like (λ e. e) allowed p p′ → Like (λ e. e) allowed (decided c h p) (decided c h′ p′)
     go Fine h h′ p p′ H K = K

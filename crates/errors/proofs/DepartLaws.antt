@@ -100,7 +100,7 @@ class-is-the-rusts = record {
   bus = λ chip nack w. at-word chip nack w .bus;
   elsewhere = λ chip nack w. at-word chip nack w .elsewhere;
   without-berr = λ chip nack w e. no-bus chip nack w (ap (λ (b : Bool). chip .ch32v4 && b) e ∙ and-false (chip .ch32v4));
-  without-ch32v4 = λ chip nack w e. no-bus chip nack w (ap (λ (b : Bool). b && hasBit BERR w) e)
+  without-ch32v4 = λ chip nack w e. no-bus chip nack w (ap (λ (b : Bool). b && hasBit BERR w) e);
 }
 
 -- ---- of ends
