@@ -90,7 +90,7 @@ impl Player {
             let end = outcome.end.unwrap_or(0) as u64;
             check(first == end, || differs("begin", end, first))?;
             self.check_kept("a refused begin")?;
-            return self.check_reordered(call, outcome, first as u32);
+            return self.check_reordered(call, outcome, first);
         }
         let last = self.play_accesses(call, outcome, random, first)?;
         if let Some(end) = outcome.end {
@@ -118,14 +118,14 @@ impl Player {
             }
         }
         self.check_bytes(call, outcome)?;
-        self.check_reordered(call, outcome, last as u32)?;
+        self.check_reordered(call, outcome, last)?;
         let is_decided = outcome.end.is_none() || flags::decide(call, Order::Port, &outcome.record, last as u32);
         check(is_decided, || format!("the flags {:04x} do not decide the C library's end", outcome.flags))
     }
 
     /// On `ch32v4`: the Rust in the port's order, fed the same answers, makes the same record, and its end is the library's
     /// own.
-    fn check_reordered(&mut self, call: &Call, outcome: &Outcome, last: u32) -> Result<(), String> {
+    fn check_reordered(&mut self, call: &Call, outcome: &Outcome, last: u64) -> Result<(), String> {
         if !matches!(call.chip, 2 | 3) {
             return Ok(());
         }
@@ -138,10 +138,10 @@ impl Player {
         check(same_record, || "the reordered Rust: another record".into())?;
         let same_rest = (&again.read, again.second, again.flags) == (&outcome.read, outcome.second, outcome.flags);
         check(same_rest && again.panic.is_none(), || "the reordered Rust: other bytes, count or flags".into())?;
-        let end = outcome.end.map(|_| last);
-        check(again.end == end, || {
-            let shown = again.end.map_or("open".into(), |end| number_text(end as u64));
-            format!("the reordered Rust: {shown}, the C library {}", number_text(last as u64))
+        let (end, number) = (again.end.map(u64::from), outcome.end.map(|_| last & 0xffff_ffff));
+        check(end == number, || {
+            let shown = end.map_or("open".into(), number_text);
+            format!("the reordered Rust: {shown}, the C library {}", number_text(last))
         })
     }
 
