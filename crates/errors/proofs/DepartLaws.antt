@@ -59,22 +59,26 @@ record Ordered (fs : ℕ) (c d : Checked) (differ : Bool) : Type 0 where
   elsewhere : differ ≡ false → unflagged c ≡ d
   both : decided c (λ f. true) false ≡ decided d (λ f. true) false
 
+-- one class, and two
+agree : {fs : ℕ} {c d : Checked} → sameClass c d ≡ true → unflagged c ≡ d → decided c (λ f. true) false ≡ decided d (λ f. true) false → Ordered fs c d false
+agree s u b = record { exactly = s; bus = λ e. absurd (true≢false (sym e)); elsewhere = λ e. u; both = b }
+
+differ : {fs : ℕ} {d : Checked} → sameClass (Failed (flagged Bus fs)) d ≡ false → true ≡ decided d (λ f. true) false → Ordered fs (Failed (flagged Bus fs)) d true
+differ s b = record { exactly = s; bus = λ e. refl; elsewhere = λ e. absurd (true≢false e); both = b }
+
 ordered : (fs : ℕ) (a b t c o n : Bool) → Ordered fs (ours fs a b t c o n) (rusts a b t c o n) (differs a b t c o n)
-ordered fs true true t c o n = alike
-  where
-    alike : Ordered fs (Failed (flagged Arbitration fs)) (Failed (failureOf Arbitration)) false
-    alike = record { exactly = refl; bus = λ e. absurd (true≢false (sym e)); elsewhere = λ e. refl; both = refl }
-ordered fs true false t c o n = record { exactly = refl; bus = λ e. absurd (true≢false (sym e)); elsewhere = λ e. refl; both = refl }
-ordered fs false false true c o n = record { exactly = refl; bus = λ e. absurd (true≢false (sym e)); elsewhere = λ e. refl; both = refl }
-ordered fs false false false true o n = record { exactly = refl; bus = λ e. absurd (true≢false (sym e)); elsewhere = λ e. refl; both = refl }
-ordered fs false false false false true n = record { exactly = refl; bus = λ e. absurd (true≢false (sym e)); elsewhere = λ e. refl; both = refl }
-ordered fs false false false false false true = record { exactly = refl; bus = λ e. absurd (true≢false (sym e)); elsewhere = λ e. refl; both = refl }
-ordered fs false false false false false false = record { exactly = refl; bus = λ e. absurd (true≢false (sym e)); elsewhere = λ e. refl; both = refl }
-ordered fs false true true c o n = record { exactly = refl; bus = λ e. refl; elsewhere = λ e. absurd (true≢false e); both = refl }
-ordered fs false true false true o n = record { exactly = refl; bus = λ e. refl; elsewhere = λ e. absurd (true≢false e); both = refl }
-ordered fs false true false false true n = record { exactly = refl; bus = λ e. refl; elsewhere = λ e. absurd (true≢false e); both = refl }
-ordered fs false true false false false true = record { exactly = refl; bus = λ e. refl; elsewhere = λ e. absurd (true≢false e); both = refl }
-ordered fs false true false false false false = record { exactly = refl; bus = λ e. absurd (true≢false (sym e)); elsewhere = λ e. refl; both = refl }
+ordered fs true true t c o n = agree refl refl refl
+ordered fs true false t c o n = agree refl refl refl
+ordered fs false false true c o n = agree refl refl refl
+ordered fs false false false true o n = agree refl refl refl
+ordered fs false false false false true n = agree refl refl refl
+ordered fs false false false false false true = agree refl refl refl
+ordered fs false false false false false false = agree refl refl refl
+ordered fs false true true c o n = differ refl refl
+ordered fs false true false true o n = differ refl refl
+ordered fs false true false false true n = differ refl refl
+ordered fs false true false false false true = differ refl refl
+ordered fs false true false false false false = agree refl refl refl
 
 -- of a word
 at-word : (chip : Chip) (nack : Bool) (w : ℕ) → Ordered (errorFlags w) (errorOf chip nack w) (rustOf chip nack w) (departs chip nack w)
