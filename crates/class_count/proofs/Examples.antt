@@ -1,0 +1,44 @@
+-- The card and the order that is no chip's, from the formula: no count is computed.
+-- Assumes nothing.
+use mathlib.Core.Path.{_≡_, refl, ap, ap₂, _∙_}
+use mathlib.Core.Bool.{Bool, true, false}
+use mathlib.Core.List.{List, [], _∷_, map}
+use Prim.Native.Nat.{ℕ}
+use lib.Dec.{lit<}
+use Rattle.registers.specs.declared.chip.Chip.{Chip}
+use Rattle.registers.specs.Chips.{chips}
+use Rattle.errors.specs.Classes.{classes}
+use Rattle.class_count.specs.Halving.{CountsHalve}
+use Rattle.class_count.specs.ClassWords.{wordsOf, formulaOf}
+use Rattle.class_count.specs.Card.{cardClasses, cardRow, cardRows, CardHolds, total, RowsAreWhole}
+use Rattle.class_count.specs.Examples.{otherOrder, OtherOrderHalves}
+use Rattle.class_count.proofs.HalvingLaws.{orders-halve}
+use Rattle.class_count.proofs.ChipLaws.{chipOf, by-chip, classes-halve}
+
+-- a row by the formula
+abbrev formulaRow : Chip → Bool → List ℕ
+formulaRow chip nack = map (formulaOf (classes chip nack)) cardClasses
+
+row-told : (chip : Chip) (nack : Bool) → cardRow chip nack ≡ formulaRow chip nack
+row-told chip nack = go cardClasses
+  where
+    go : (l : List ℕ) → map (wordsOf chip nack) l ≡ map (formulaOf (classes chip nack)) l
+    go [] = refl
+    go (n ∷ l) = ap₂ _∷_ (classes-halve chip nack n) (go l)
+
+pub card-holds : CardHolds
+card-holds = go chips
+  where
+    go : (l : List Chip) → map cardRows l ≡ map (λ chip. formulaRow chip true ∷ formulaRow chip false ∷ []) l
+    go [] = refl
+    go (chip ∷ l) = ap₂ _∷_ (ap₂ (λ (m s : List ℕ). m ∷ s ∷ []) (row-told chip true) (row-told chip false)) (go l)
+
+pub rows-are-whole : RowsAreWhole
+rows-are-whole chip nack =
+    ap total (row-told chip nack)
+    ∙ by-chip (λ v3 v4 m. total (formulaRow (chipOf v3 v4) m) ≡ 65536) refl refl refl refl refl refl refl refl (chip .«i2c_v3») (chip .ch32v4) nack
+
+pub other-order-halves : OtherOrderHalves
+other-order-halves =
+    let r : CountsHalve otherOrder = orders-halve otherOrder refl in
+    rw (r .flag 0 (lit< tt), r .flag 1 (lit< tt), r .flag 2 (lit< tt), r .without)
