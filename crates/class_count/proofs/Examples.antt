@@ -9,22 +9,18 @@ use Rattle.registers.specs.declared.chip.Chip.{Chip}
 use Rattle.registers.specs.Chips.{chips}
 use Rattle.errors.specs.Classes.{classes}
 use Rattle.class_count.specs.Halving.{CountsHalve}
-use Rattle.class_count.specs.ClassWords.{wordsOf, formulaOf}
+use Rattle.class_count.specs.ClassWords.{formulaOf}
 use Rattle.class_count.specs.Card.{cardClasses, cardRow, cardRows, CardHolds, total, RowsAreWhole}
 use Rattle.class_count.specs.Examples.{otherOrder, OtherOrderHalves}
 use Rattle.class_count.proofs.HalvingLaws.{orders-halve}
-use Rattle.class_count.proofs.ChipLaws.{chipOf, by-chip, classes-halve}
+use Rattle.class_count.proofs.ChipLaws.{chipOf, by-chip, all-halve}
 
 -- a row by the formula
 abbrev formulaRow : Chip → Bool → List ℕ
 formulaRow chip nack = map (formulaOf (classes chip nack)) cardClasses
 
 row-told : (chip : Chip) (nack : Bool) → cardRow chip nack ≡ formulaRow chip nack
-row-told chip nack = go cardClasses
-  where
-    go : (l : List ℕ) → map (wordsOf chip nack) l ≡ map (formulaOf (classes chip nack)) l
-    go [] = refl
-    go (n ∷ l) = ap₂ _∷_ (classes-halve chip nack n) (go l)
+row-told chip nack = all-halve chip nack cardClasses
 
 pub card-holds : CardHolds
 card-holds = go chips

@@ -13,7 +13,7 @@ use borrow.Author.Tests.{ltb-true}
 use Rattle.registers.specs.Word.{hasBit}
 use Rattle.access.proofs.Choice.{first-true, second-true}
 use Rattle.class_count.specs.Counting.{countWords}
-use Rattle.class_count.specs.Order.{firstAt, isAt, isNone, isIn, areDifferent, areBits}
+use Rattle.class_count.specs.Order.{firstAt, isAt, isNone, isIn, areDifferent, areBelow}
 use Rattle.class_count.specs.Halving.{OrdersHalve}
 use Rattle.class_count.proofs.CountLaws.{words-same, count-all}
 use Rattle.class_count.proofs.DifferentLaws.{not-first, not-rest, fresh, rest-different}
@@ -64,19 +64,19 @@ none-next true false (some j) = refl
 power : {m n : ℕ} → m ≡ n → 2 ^ m ≡ 2 ^ n
 power e = ap (λ (n : ℕ). 2 ^ n) e
 
-shares : (l : List ℕ) → areBits l ≡ true → areDifferent l ≡ true → (t : ℕ → Bool) → FreeOf t l → (c : ℕ) → countWords t ≡ 2 ^ c → Shares t l c
+shares : (l : List ℕ) → areBelow 16 l ≡ true → areDifferent l ≡ true → (t : ℕ → Bool) → FreeOf t l → (c : ℕ) → countWords t ≡ 2 ^ c → Shares t l c
 unfolding FreeOf
 shares [] a d t f c e = record {
   flag = λ k h. absurd (omega arith);
   without = words-same _ t (λ w. and-true (t w)) ∙ e ∙ power (omega arith);
 }
 -- one word cannot be halved
-shares (b ∷ l) a d t f zero e = absurd (omega (arith, set-half t b (f .0) (ltb-true b 16 (first-true (ltb b 16) (areBits l) a)), e))
+shares (b ∷ l) a d t f zero e = absurd (omega (arith, set-half t b (f .0) (ltb-true b 16 (first-true (ltb b 16) (areBelow 16 l) a)), e))
 shares (b ∷ l) a d t f (suc c) e =
-    let small : b < 16 = ltb-true b 16 (first-true (ltb b 16) (areBits l) a) in
+    let small : b < 16 = ltb-true b 16 (first-true (ltb b 16) (areBelow 16 l) a) in
     let half : countWords (λ w. t w && hasBit b w) ≡ 2 ^ c = omega (arith, set-half t b (f .0) small, e, pow-suc 2 c) in
     let r : Shares (λ w. t w && not (hasBit b w)) l c =
-    shares l (second-true (ltb b 16) (areBits l) a) (rest-different b l d)
+    shares l (second-true (ltb b 16) (areBelow 16 l) a) (rest-different b l d)
     (λ w. t w && not (hasBit b w)) (free-clear t b l (fresh b l d) (f .1)) c (clear-half t b (f .0) small ∙ half) in
     record {
       flag = by-place t b l c half r;
@@ -91,7 +91,7 @@ shares (b ∷ l) a d t f (suc c) e =
 pub orders-halve : OrdersHalve
 unfolding countWords
 orders-halve bits o =
-    let r = shares bits (first-true (areBits bits) (areDifferent bits) o) (second-true (areBits bits) (areDifferent bits) o) (λ w. true) (free-true bits) 16 (count-all 65536) in
+    let r = shares bits (first-true (areBelow 16 bits) (areDifferent bits) o) (second-true (areBelow 16 bits) (areDifferent bits) o) (λ w. true) (free-true bits) 16 (count-all 65536) in
     record {
       flag = λ k h. r .flag k h ∙ power (omega arith);
       without = r .without;

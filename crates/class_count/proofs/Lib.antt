@@ -4,4 +4,5 @@ pub mod BitHalves
 pub mod HalvingLaws
 pub mod PlaceLaws
 pub mod ChipLaws
+pub mod LeftLaws
 pub mod Examples

@@ -119,3 +119,7 @@ list-halves cs o d n = by-number (eqb n 0) refl
         ∙ orders-halve (flagsIn cs) o .without ∙ ap (λ (m : ℕ). 2 ^ (16 - m)) (length-map cs _)
     by-number false z =
         words-same _ _ (λ w. class-found n cs w z (rest-different 0 (numbersIn cs) d)) ∙ taken (placeOf n (numbersIn cs)) (within n (numbersIn cs))
+
+-- a number that is no class's counts no words
+pub no-words : (cs : List Class) (n : ℕ) → eqb n 0 ≡ false → isIn n (numbersIn cs) ≡ false → countWords (λ w. eqb n (numberOf (firstOf cs w))) ≡ 0
+no-words cs n z a = words-same _ _ (λ w. never-found n cs w z a) ∙ words-nothing

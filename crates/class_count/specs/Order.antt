@@ -29,10 +29,10 @@ abbrev pub areDifferent : List ℕ → Bool
 areDifferent [] = true
 areDifferent (b ∷ l) = not (isIn b l) && areDifferent l
 
--- each is the number of a bit
-abbrev pub areBits : List ℕ → Bool
-areBits [] = true
-areBits (b ∷ l) = ltb b 16 && areBits l
+abbrev pub areBelow : ℕ → List ℕ → Bool
+areBelow k [] = true
+areBelow k (b ∷ l) = ltb b k && areBelow k l
 
+-- numbers of a word's bits, none twice
 abbrev pub isOrder : List ℕ → Bool
-isOrder l = areBits l && areDifferent l
+isOrder l = areBelow 16 l && areDifferent l
