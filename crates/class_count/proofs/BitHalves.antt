@@ -1,21 +1,16 @@
--- A test that a bit does not change is passed by as many words with the bit set as with it clear.
+-- A test that ignores a bit is passed by as many words with the bit set as with it clear.
 -- Assumes nothing.
-use Prim.Native.Nat.{ℕ, zero, suc, _+_, _-_, _*_, _/_, _%_, _^_, _<_}
-use mathlib.Core.Path.{_≡_, refl, sym, ap, ap₂, _∙_, subst}
-use mathlib.Core.Bool.{Bool, true, false, not, _&&_, and-true, and-false}
-use native.Mathlib.Nat.{add-mul, one-mul, mul-comm, mul-zero, mul-suc, pow-suc, mod-lt}
+use Prim.Native.Nat.{ℕ, zero, suc, _+_, _-_, _*_, _%_, _^_, _<_}
+use mathlib.Core.Path.{_≡_, sym, ap, ap₂, _∙_, subst}
+use mathlib.Core.Bool.{Bool, true, false, not, _&&_, and-false}
+use native.Mathlib.Nat.{add-mul, one-mul, mul-comm, mul-zero, mul-suc, pow-suc}
 use native.Mathlib.Omega.{arith}
 use lib.Dec.{eqb}
-use lib.Pow.{high, pow-add, pow-pos}
-use borrow.Author.Tests.{eqb-false}
-use Rattle.registers.specs.Word.{fieldOf, putField, bitField, hasBit, putBit}
-use Rattle.registers.proofs.WordLaws.{put-empty, bit-other}
+use lib.Pow.{high, pow-add}
+use Rattle.registers.specs.Word.{hasBit}
 use Rattle.class_count.specs.Counting.{countBelow, countWords}
 use Rattle.class_count.proofs.CountLaws.{count-add, count-same, count-nothing, count-split}
-
--- bit b does not change the test
-abbrev pub Free : (ℕ → Bool) → ℕ → Type 0
-Free t b = (w : ℕ) → hasBit b w ≡ false → t (w + 2 ^ b) ≡ t w
+use Rattle.class_count.proofs.IgnoreLaws.{Ignores}
 
 -- ---- the words in blocks, each with the bit clear in its first half and set in its second
 
@@ -43,7 +38,7 @@ second-half b j r h =
     let odd : (j + j + 1) % 2 ≡ 1 = omega arith in
     ap (hasBit b) e ∙ digit (j + j + 1) b r h ∙ ap (λ (x : ℕ). eqb x 1) odd
 
-module _ (t : ℕ → Bool) (b : ℕ) (free : Free t b) where
+module _ (t : ℕ → Bool) (b : ℕ) (ignores : Ignores t b) where
   set : ℕ → Bool
   set w = t w && hasBit b w
 
@@ -62,7 +57,7 @@ module _ (t : ℕ → Bool) (b : ℕ) (free : Free t b) where
   unfolding set clear
   set-second j r h =
       let e : block b * j + (2 ^ b + r) ≡ block b * j + r + 2 ^ b = omega arith in
-      ap₂ _&&_ (ap t e ∙ free (block b * j + r) (first-half b j r h)) (second-half b j r h ∙ sym (ap not (first-half b j r h)))
+      ap₂ _&&_ (ap t e ∙ ignores (block b * j + r) (first-half b j r h)) (second-half b j r h ∙ sym (ap not (first-half b j r h)))
 
   in-block : (j : ℕ) → countBelow (λ r. set (block b * j + r)) (block b) ≡ countBelow (λ r. clear (block b * j + r)) (block b)
   unfolding block
@@ -92,24 +87,11 @@ module _ (t : ℕ → Bool) (b : ℕ) (free : Free t b) where
       let e : suc b + (15 - b) ≡ 16 = omega arith in
       ap (λ (x : ℕ). x * 2 ^ (15 - b)) (omega (arith, pow-suc 2 b)) ∙ sym (pow-add 2 (suc b) (15 - b)) ∙ ap (λ (x : ℕ). 2 ^ x) e
 
-  -- of the words that pass, half have the bit set and half have it clear
-  pub set-half : b < 16 → countWords (λ w. t w && hasBit b w) + countWords (λ w. t w && hasBit b w) ≡ countWords t
-  unfolding countWords set clear
-  set-half h = omega (arith, subst (λ (n : ℕ). countBelow set n ≡ countBelow clear n) (whole h) (in-blocks (2 ^ (15 - b))), count-split t (hasBit b) 65536)
-
+  -- of the words that pass, half have the bit clear and half have it set
   pub clear-half : b < 16 → countWords (λ w. t w && not (hasBit b w)) ≡ countWords (λ w. t w && hasBit b w)
   unfolding countWords set clear
   clear-half h = sym (subst (λ (n : ℕ). countBelow set n ≡ countBelow clear n) (whole h) (in-blocks (2 ^ (15 - b))))
 
--- ---- which bits do not change a test
-
--- a bit that is set where it was clear
-set-clear : (b w : ℕ) → hasBit b w ≡ false → putBit b true w ≡ w + 2 ^ b
-unfolding hasBit putBit putField fieldOf
-set-clear b w h =
-    let z : fieldOf (bitField b) w ≡ 0 = omega (arith, eqb-false (w / 2 ^ b % 2) 1 h, mod-lt (w / 2 ^ b) (pow-pos 1)) in
-    put-empty (bitField b) 1 w z ∙ ap (λ (x : ℕ). w + x) (one-mul (2 ^ b))
-
--- another bit's test
-pub bit-free : (b c : ℕ) → (b ≡ c → ⊥) → Free (hasBit b) c
-bit-free b c ne w h = ap (hasBit b) (sym (set-clear c w h)) ∙ bit-other b c true w ne
+  pub set-half : b < 16 → countWords (λ w. t w && hasBit b w) + countWords (λ w. t w && hasBit b w) ≡ countWords t
+  unfolding countWords
+  set-half h = omega (arith, clear-half h, count-split t (hasBit b) 65536)

@@ -13,29 +13,34 @@ use Rattle.class_count.specs.ClassWords.{flagsIn, numbersIn, wordsOf, fo
 use Rattle.class_count.proofs.DifferentLaws.{above-all}
 use Rattle.class_count.proofs.PlaceLaws.{list-halves, no-words}
 
--- what holds of the four chips for a master and a slave holds of all
-pub by-chip : (P : Bool → Bool → Bool → Type 0) → P true true true → P true true false → P true false true → P true false false → P false true true → P false true false → P false false true → P false false false
-    → (v3 v4 nack : Bool) → P v3 v4 nack
-by-chip P a b c d e f g h true true true = a
-by-chip P a b c d e f g h true true false = b
-by-chip P a b c d e f g h true false true = c
-by-chip P a b c d e f g h true false false = d
-by-chip P a b c d e f g h false true true = e
-by-chip P a b c d e f g h false true false = f
-by-chip P a b c d e f g h false false true = g
-by-chip P a b c d e f g h false false false = h
-
-abbrev pub chipOf : Bool → Bool → Chip
+abbrev chipOf : Bool → Bool → Chip
 chipOf v3 v4 = record { «i2c_v3» = v3; ch32v4 = v4 }
 
+-- what holds of the four chips, for a master and a slave, holds of all
+pub by-chip : (P : Chip → Bool → Type 0)
+    → P (chipOf true true) true → P (chipOf true true) false → P (chipOf true false) true → P (chipOf true false) false
+    → P (chipOf false true) true → P (chipOf false true) false → P (chipOf false false) true → P (chipOf false false) false
+    → (chip : Chip) (nack : Bool) → P chip nack
+by-chip P a b c d e f g h chip nack = go (chip .«i2c_v3») (chip .ch32v4) nack
+  where
+    go : (v3 v4 m : Bool) → P (chipOf v3 v4) m
+    go true true true = a
+    go true true false = b
+    go true false true = c
+    go true false false = d
+    go false true true = e
+    go false true false = f
+    go false false true = g
+    go false false false = h
+
 flags-order : (chip : Chip) (nack : Bool) → isOrder (flagsIn (classes chip nack)) ≡ true
-flags-order chip nack = by-chip (λ v3 v4 m. isOrder (flagsIn (classes (chipOf v3 v4) m)) ≡ true) refl refl refl refl refl refl refl refl (chip .«i2c_v3») (chip .ch32v4) nack
+flags-order = by-chip (λ v m. isOrder (flagsIn (classes v m)) ≡ true) refl refl refl refl refl refl refl refl
 
 numbers-different : (chip : Chip) (nack : Bool) → areDifferent (0 ∷ numbersIn (classes chip nack)) ≡ true
-numbers-different chip nack = by-chip (λ v3 v4 m. areDifferent (0 ∷ numbersIn (classes (chipOf v3 v4) m)) ≡ true) refl refl refl refl refl refl refl refl (chip .«i2c_v3») (chip .ch32v4) nack
+numbers-different = by-chip (λ v m. areDifferent (0 ∷ numbersIn (classes v m)) ≡ true) refl refl refl refl refl refl refl refl
 
 numbers-small : (chip : Chip) (nack : Bool) → areBelow 7 (numbersIn (classes chip nack)) ≡ true
-numbers-small chip nack = by-chip (λ v3 v4 m. areBelow 7 (numbersIn (classes (chipOf v3 v4) m)) ≡ true) refl refl refl refl refl refl refl refl (chip .«i2c_v3») (chip .ch32v4) nack
+numbers-small = by-chip (λ v m. areBelow 7 (numbersIn (classes v m)) ≡ true) refl refl refl refl refl refl refl refl
 
 pub classes-halve : ClassesHalve
 unfolding wordsOf errorOf

@@ -13,7 +13,7 @@ use Rattle.class_count.specs.ClassWords.{formulaOf}
 use Rattle.class_count.specs.Card.{cardClasses, cardRow, cardRows, CardHolds, total, RowsAreWhole}
 use Rattle.class_count.specs.Examples.{otherOrder, OtherOrderHalves}
 use Rattle.class_count.proofs.HalvingLaws.{orders-halve}
-use Rattle.class_count.proofs.ChipLaws.{chipOf, by-chip, all-halve}
+use Rattle.class_count.proofs.ChipLaws.{by-chip, all-halve}
 
 -- a row by the formula
 abbrev formulaRow : Chip → Bool → List ℕ
@@ -32,7 +32,7 @@ card-holds = go chips
 pub rows-are-whole : RowsAreWhole
 rows-are-whole chip nack =
     ap total (row-told chip nack)
-    ∙ by-chip (λ v3 v4 m. total (formulaRow (chipOf v3 v4) m) ≡ 65536) refl refl refl refl refl refl refl refl (chip .«i2c_v3») (chip .ch32v4) nack
+    ∙ by-chip (λ v m. total (formulaRow v m) ≡ 65536) refl refl refl refl refl refl refl refl chip nack
 
 pub other-order-halves : OtherOrderHalves
 other-order-halves =

@@ -1,42 +1,24 @@
--- The formula for any order of flags, by induction over the list: a test that none of its flags changes is halved by each in turn.
+-- The formula for any order of flags, by induction over the list: a test that ignores its flags is halved by each in turn.
 -- Assumes nothing.
 use Prim.Native.Nat.{ℕ, zero, suc, _-_, _^_, _<_}
-use mathlib.Core.Path.{_≡_, refl, ap, ap₂, _∙_}
+use mathlib.Core.Path.{_≡_, refl, ap, _∙_}
 use mathlib.Core.Bool.{Bool, true, false, cond, not, _&&_, and-true}
 use mathlib.Core.List.{List, [], _∷_}
 use mathlib.Core.Option.{Option, none, some, Option·map}
 use native.Mathlib.Nat.{pow-suc}
 use native.Mathlib.Omega.{arith}
-use lib.Dec.{eqb, ltb, eqb·zero-suc, eqb·suc-zero, eqb·suc-suc}
+use lib.Dec.{ltb, eqb·zero-suc, eqb·suc-zero, eqb·suc-suc}
 use lib.ListN.{length}
 use borrow.Author.Tests.{ltb-true}
 use Rattle.registers.specs.Word.{hasBit}
 use Rattle.access.proofs.Choice.{first-true, second-true}
 use Rattle.class_count.specs.Counting.{countWords}
-use Rattle.class_count.specs.Order.{firstAt, isAt, isNone, isIn, areDifferent, areBelow}
+use Rattle.class_count.specs.Order.{firstAt, isAt, isNone, areDifferent, areBelow}
 use Rattle.class_count.specs.Halving.{OrdersHalve}
 use Rattle.class_count.proofs.CountLaws.{words-same, count-all}
-use Rattle.class_count.proofs.DifferentLaws.{not-first, not-rest, fresh, rest-different}
-use Rattle.class_count.proofs.BitHalves.{Free, bit-free, set-half, clear-half}
-
--- none of the bits changes the test
-FreeOf : (ℕ → Bool) → List ℕ → Type 0
-FreeOf t [] = Unit {0}
-FreeOf t (b ∷ l) = Free t b × FreeOf t l
-
-free-true : (l : List ℕ) → FreeOf (λ w. true) l
-unfolding FreeOf
-free-true [] = tt
-free-true (b ∷ l) = (λ w h. refl, free-true l)
-
--- a flag that stands nowhere in the list may be tested too
-free-clear : (t : ℕ → Bool) (b : ℕ) (l : List ℕ) → isIn b l ≡ false → FreeOf t l → FreeOf (λ w. t w && not (hasBit b w)) l
-unfolding FreeOf
-free-clear t b [] o f = tt
-free-clear t b (c ∷ l) o f = (
-  λ w h. ap₂ (λ (x y : Bool). x && not y) (f .0 w h) (bit-free b c (not-first b c l o) w h),
-  free-clear t b l (not-rest b c l o) (f .1),
-)
+use Rattle.class_count.proofs.DifferentLaws.{fresh, rest-different}
+use Rattle.class_count.proofs.BitHalves.{clear-half, set-half}
+use Rattle.class_count.proofs.IgnoreLaws.{IgnoresAll, always-ignores, clear-ignores}
 
 -- of the words that pass a test, 2 ^ c
 record Shares (t : ℕ → Bool) (l : List ℕ) (c : ℕ) : Type 0 where
@@ -64,8 +46,8 @@ none-next true false (some j) = refl
 power : {m n : ℕ} → m ≡ n → 2 ^ m ≡ 2 ^ n
 power e = ap (λ (n : ℕ). 2 ^ n) e
 
-shares : (l : List ℕ) → areBelow 16 l ≡ true → areDifferent l ≡ true → (t : ℕ → Bool) → FreeOf t l → (c : ℕ) → countWords t ≡ 2 ^ c → Shares t l c
-unfolding FreeOf
+shares : (l : List ℕ) → areBelow 16 l ≡ true → areDifferent l ≡ true → (t : ℕ → Bool) → IgnoresAll t l → (c : ℕ) → countWords t ≡ 2 ^ c → Shares t l c
+unfolding IgnoresAll
 shares [] a d t f c e = record {
   flag = λ k h. absurd (omega arith);
   without = words-same _ t (λ w. and-true (t w)) ∙ e ∙ power (omega arith);
@@ -77,7 +59,7 @@ shares (b ∷ l) a d t f (suc c) e =
     let half : countWords (λ w. t w && hasBit b w) ≡ 2 ^ c = omega (arith, set-half t b (f .0) small, e, pow-suc 2 c) in
     let r : Shares (λ w. t w && not (hasBit b w)) l c =
     shares l (second-true (ltb b 16) (areBelow 16 l) a) (rest-different b l d)
-    (λ w. t w && not (hasBit b w)) (free-clear t b l (fresh b l d) (f .1)) c (clear-half t b (f .0) small ∙ half) in
+    (λ w. t w && not (hasBit b w)) (clear-ignores t b l (fresh b l d) (f .1)) c (clear-half t b (f .0) small ∙ half) in
     record {
       flag = by-place t b l c half r;
       without = words-same _ _ (λ w. none-next (t w) (hasBit b w) (firstAt l w)) ∙ r .without ∙ power (omega arith);
@@ -91,7 +73,7 @@ shares (b ∷ l) a d t f (suc c) e =
 pub orders-halve : OrdersHalve
 unfolding countWords
 orders-halve bits o =
-    let r = shares bits (first-true (areBelow 16 bits) (areDifferent bits) o) (second-true (areBelow 16 bits) (areDifferent bits) o) (λ w. true) (free-true bits) 16 (count-all 65536) in
+    let r = shares bits (first-true (areBelow 16 bits) (areDifferent bits) o) (second-true (areBelow 16 bits) (areDifferent bits) o) (λ w. true) (always-ignores bits) 16 (count-all 65536) in
     record {
       flag = λ k h. r .flag k h ∙ power (omega arith);
       without = r .without;

@@ -7,7 +7,7 @@ use mathlib.Core.List.{List, [], _∷_, map}
 use Rattle.registers.specs.declared.chip.Chip.{Chip}
 use Rattle.errors.specs.Classes.{classes}
 use Rattle.class_count.specs.ClassWords.{wordsOf, formulaOf}
-use Rattle.class_count.proofs.ChipLaws.{chipOf, by-chip, all-halve}
+use Rattle.class_count.proofs.ChipLaws.{by-chip, all-halve}
 
 -- half, if the chip has the flag
 abbrev left : ℕ → Bool → ℕ
@@ -18,10 +18,10 @@ abbrev pub taken : ℕ → ℕ → ℕ → ℕ → ℕ → ℕ → List ℕ
 taken arlo berr timeout pecerr ovr af = af ∷ (arlo - berr) ∷ (65536 - arlo) ∷ (ovr - af) ∷ (berr - timeout) ∷ (timeout - pecerr) ∷ (pecerr - ovr) ∷ []
 
 -- each from what the one before it left
-abbrev takenFrom : Bool → Bool → Bool → ℕ → List ℕ
-takenFrom v3 v4 nack arlo =
-    let berr = left arlo v4 in
-    let timeout = left berr v3 in
+abbrev takenFrom : Chip → Bool → ℕ → List ℕ
+takenFrom chip nack arlo =
+    let berr = left arlo (chip .ch32v4) in
+    let timeout = left berr (chip .«i2c_v3») in
     let pecerr = timeout / 2 in
     let ovr = pecerr / 2 in
     taken arlo berr timeout pecerr ovr (left ovr nack)
@@ -34,5 +34,5 @@ pub taken-told : (chip : Chip) (nack : Bool) (arlo berr timeout pecerr ovr af : 
     → taken arlo berr timeout pecerr ovr af ≡ map (wordsOf chip nack) classNumbers
 taken-told chip nack arlo berr timeout pecerr ovr af a b t p o f =
     rw (f, o, p, t, b, a)
-    (by-chip (λ v3 v4 m. takenFrom v3 v4 m 32768 ≡ map (formulaOf (classes (chipOf v3 v4) m)) classNumbers) refl refl refl refl refl refl refl refl (chip .«i2c_v3») (chip .ch32v4) nack)
+    (by-chip (λ v m. takenFrom v m 32768 ≡ map (formulaOf (classes v m)) classNumbers) refl refl refl refl refl refl refl refl chip nack)
     ∙ sym (all-halve chip nack classNumbers)

@@ -1,5 +1,6 @@
 pub mod CountLaws
 pub mod DifferentLaws
+pub mod IgnoreLaws
 pub mod BitHalves
 pub mod HalvingLaws
 pub mod PlaceLaws

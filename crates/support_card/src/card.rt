@@ -1,5 +1,4 @@
 // The support card put into a buffer.
-ghost use mathlib.Core.Path.{_≡_};
 ghost use Prim.Native.Nat.{_+_, _≤_};
 ghost use lib.ListN.{length};
 ghost use Rattle.bench_text.specs.Puts.{Puts};
