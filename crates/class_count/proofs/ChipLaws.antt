@@ -1,6 +1,6 @@
 -- The formula for the classes of each chip and side.
 -- Assumes nothing.
-use Prim.Native.Nat.{ℕ, _≤_}
+use Prim.Native.Nat.{ℕ}
 use mathlib.Core.Path.{_≡_, refl, ap₂}
 use mathlib.Core.Bool.{Bool, true, false}
 use mathlib.Core.List.{List, [], _∷_, map}
@@ -9,9 +9,9 @@ use borrow.Author.Tests.{ne-eqb}
 use Rattle.registers.specs.declared.chip.Chip.{Chip}
 use Rattle.errors.specs.Classes.{classes, errorOf}
 use Rattle.class_count.specs.Order.{areDifferent, areBelow, isOrder}
-use Rattle.class_count.specs.ClassWords.{flagsIn, numbersIn, wordsOf, formulaOf, ClassesHalve}
+use Rattle.class_count.specs.ClassWords.{flagsIn, numbersIn, wordsOf, formulaOf, ClassesHalve, NoOtherClass}
 use Rattle.class_count.proofs.DifferentLaws.{above-all}
-use Rattle.class_count.proofs.PlaceLaws.{list-halves, no-words}
+use Rattle.class_count.proofs.ListHalves.{list-halves, no-words}
 
 abbrev chipOf : Bool → Bool → Chip
 chipOf v3 v4 = record { «i2c_v3» = v3; ch32v4 = v4 }
@@ -51,7 +51,6 @@ pub all-halve : (chip : Chip) (nack : Bool) (l : List ℕ) → map (wordsOf chip
 all-halve chip nack [] = refl
 all-halve chip nack (n ∷ l) = ap₂ _∷_ (classes-halve chip nack n) (all-halve chip nack l)
 
--- there is no class above 6
-pub no-class : (chip : Chip) (nack : Bool) (n : ℕ) → 7 ≤ n → wordsOf chip nack n ≡ 0
+pub no-class : NoOtherClass
 unfolding wordsOf errorOf
 no-class chip nack n h = no-words (classes chip nack) n (ne-eqb n 0 (λ e. omega arith)) (above-all 7 n (numbersIn (classes chip nack)) (numbers-small chip nack) h)

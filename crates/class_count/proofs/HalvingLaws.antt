@@ -20,7 +20,7 @@ use Rattle.class_count.proofs.DifferentLaws.{fresh, rest-different}
 use Rattle.class_count.proofs.BitHalves.{clear-half, set-half}
 use Rattle.class_count.proofs.IgnoreLaws.{IgnoresAll, always-ignores, clear-ignores}
 
--- of the words that pass a test, 2 ^ c
+-- 2 ^ c words pass a test: what each flag takes of them, and what all leave
 record Shares (t : ℕ → Bool) (l : List ℕ) (c : ℕ) : Type 0 where
   flag : (k : ℕ) → k < length l → countWords (λ w. t w && isAt k (firstAt l w)) ≡ 2 ^ (c - suc k)
   without : countWords (λ w. t w && isNone (firstAt l w)) ≡ 2 ^ (c - length l)

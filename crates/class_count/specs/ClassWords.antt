@@ -1,5 +1,5 @@
 -- How many status words lead to each class, on a chip, for a master (`nack`) or a slave.
-use Prim.Native.Nat.{ℕ, suc, _-_, _^_}
+use Prim.Native.Nat.{ℕ, suc, _-_, _^_, _≤_}
 use mathlib.Core.Path.{_≡_}
 use mathlib.Core.Bool.{Bool, cond}
 use mathlib.Core.List.{List, [], _∷_, map}
@@ -45,3 +45,7 @@ formulaOf cs n = cond (eqb n 0) (2 ^ (16 - length cs)) (takenAt (placeOf n (numb
 
 abbrev pub ClassesHalve : Type 0
 ClassesHalve = (chip : Chip) (nack : Bool) (n : ℕ) → wordsOf chip nack n ≡ formulaOf (classes chip nack) n
+
+-- the classes are numbered up to 6
+abbrev pub NoOtherClass : Type 0
+NoOtherClass = (chip : Chip) (nack : Bool) (n : ℕ) → 7 ≤ n → wordsOf chip nack n ≡ 0
