@@ -18,6 +18,7 @@ use Rattle.access.specs.Endings.{done, returned, returnedBoth, failed}
 use Rattle.access.specs.Program.{Program, finish}
 use Rattle.access.specs.Record.{Shown, noMore, shownOf, DifferInPayload, Same, SameStruck, EndsAlike, struck}
 use Rattle.access.specs.Machine.{shownFrom}
+use Rattle.access.proofs.Choice.{second-false}
 use Rattle.access.proofs.NumberLaws.{number-injective}
 use Rattle.alike.specs.Like.{forgetEnd, forgetting, allAllowed}
 use Rattle.alike.proofs.LikeLaws.{nothing-forgotten}
@@ -74,7 +75,7 @@ use Rattle.ch32_i2c.proofs.RustRefuses.{master-refused, master-unadded,
 use Rattle.ch32_i2c.proofs.Moved.{unmoved-end, moved-end, berr-undecided}
 use Rattle.ch32_i2c.proofs.Unread.{none-has-berr}
 use Rattle.ch32_i2c.proofs.RunsRecord.{transaction-runs}
-use Rattle.ch32_i2c.proofs.Words.{second-false, address-passed, Obey, struck-keeps, transfer-obeys, init-slave-obeys, init-obeys, obeys-free}
+use Rattle.ch32_i2c.proofs.Words.{address-passed, Obey, struck-keeps, transfer-obeys, init-slave-obeys, init-obeys, obeys-free}
 use Rattle.ch32_i2c.proofs.Refuses.{transfer-refuses, response-refuses, init-refuses, init-slave-refuses}
 use Rattle.ch32_i2c.proofs.Stops.{init-stops, master-stops, init-slave-stops, slave-stops}
 

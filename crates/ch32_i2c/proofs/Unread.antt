@@ -1,13 +1,13 @@
 -- A record without BERR, in layer 1's words.
 -- Assumes nothing.
-use mathlib.Core.Path.{_≡_, refl, sym}
-use mathlib.Core.Bool.{Bool, true, false, not, _||_, true≢false}
+use mathlib.Core.Path.{_≡_, refl}
+use mathlib.Core.Bool.{Bool, true, false, not, true≢false}
 use mathlib.Core.List.{List, [], _∷_, map}
 use mathlib.Core.Option.{Option, none, some}
 use Prim.Native.Nat.{ℕ}
 use Rattle.access.specs.Program.{Access, read, write, send, clock}
 use Rattle.access.specs.Record.{Event}
-use Rattle.access.proofs.Choice.{both-true}
+use Rattle.access.proofs.Choice.{both-true, first-false, second-false}
 use Rattle.alike.specs.Like.{answerAllowed, allAllowed}
 use Rattle.errors.specs.Check.{isBerr, withoutBerr}
 use Rattle.ch32_i2c.specs.Fed.{nextOf, seenOf}
@@ -16,14 +16,6 @@ use Rattle.ch32_i2c.specs.Demands.{seesBerr, hasBerr}
 negated : (b : Bool) → b ≡ false → not b ≡ true
 negated false e = refl
 negated true e = absurd (true≢false e)
-
-first-false : (a b : Bool) → a || b ≡ false → a ≡ false
-first-false false b e = refl
-first-false true b e = e
-
-rest-false : (a b : Bool) → a || b ≡ false → b ≡ false
-rest-false false b e = e
-rest-false true b e = absurd (true≢false e)
 
 here : (x : Access) (a : Option ℕ) → seesBerr (nextOf x) a ≡ false → answerAllowed withoutBerr x a ≡ true
 here (read r) none e = refl
@@ -39,4 +31,4 @@ pub none-has-berr : (es : List Event) → hasBerr (map seenOf es) ≡ false → 
 none-has-berr [] e = refl
 none-has-berr (x ∷ es) e =
     let a = seesBerr (nextOf (x .what)) (x .answer) in
-    both-true (here (x .what) (x .answer) (first-false a (hasBerr (map seenOf es)) e)) (none-has-berr es (rest-false a (hasBerr (map seenOf es)) e))
+    both-true (here (x .what) (x .answer) (first-false a (hasBerr (map seenOf es)) e)) (none-has-berr es (second-false a (hasBerr (map seenOf es)) e))

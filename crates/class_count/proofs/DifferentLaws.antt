@@ -2,21 +2,13 @@
 -- Assumes nothing.
 use Prim.Native.Nat.{ℕ, _≤_, _<_}
 use mathlib.Core.Path.{_≡_, refl}
-use mathlib.Core.Bool.{Bool, true, false, not, _||_, true≢false}
+use mathlib.Core.Bool.{true, false, not}
 use mathlib.Core.List.{List, [], _∷_}
 use native.Mathlib.Omega.{arith}
 use lib.Dec.{eqb, ltb}
 use borrow.Author.Tests.{ltb-true, eqb-false, ne-eqb, not-true}
-use Rattle.access.proofs.Choice.{first-true, second-true}
+use Rattle.access.proofs.Choice.{first-true, second-true, first-false, second-false}
 use Rattle.class_count.specs.Order.{isIn, areDifferent, areBelow}
-
-first-false : (a b : Bool) → a || b ≡ false → a ≡ false
-first-false false b e = refl
-first-false true b e = e
-
-second-false : (a b : Bool) → a || b ≡ false → b ≡ false
-second-false false b e = e
-second-false true b e = absurd (true≢false e)
 
 module _ (n m : ℕ) (l : List ℕ) where
   -- it is not the first, and not in the rest
