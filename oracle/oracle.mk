@@ -72,8 +72,10 @@ $(ORACLE)/speed: $(ORACLE)/liboracle.rlib $(ALL_CHIPS) $(ORACLE)/as_the_rust.o $
 .PHONY: speed compare compare-faults sample oracle-check replay-c compare-bench
 
 # The carried Rust and the C library on the same calls: CALLS of each entry on each chip. On ch32v4 the reordered Rust too.
+# Then the support card, by a count of its own.
 compare: $(ORACLE)/compare
 	$(ORACLE)/compare $(SEED) $(CALLS)
+	python3 oracle/card.py
 
 # Instructions and time for each access, the C library beside the Rust. Needs valgrind.
 speed: $(ORACLE)/speed
