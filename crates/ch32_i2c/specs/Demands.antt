@@ -502,8 +502,8 @@ pub record Demand2 : Type 0 where
   -- which is so if no answer to a read of STAR1 in the record has it
   pub unread : (c : Call) (block bytes : List ℕ) → Reads c bytes → Accepted c block bytes → (turns : ℕ) (answers : List ℕ) → length answers < turns → hasBerr (recordAfter c block bytes answers) ≡ false
       → BerrUnread turns c (length bytes) answers
-  -- and for no others but these: it is, unless the flags of the end are a word at which the two orders differ; there ours ends with Bus, and the
-  -- Rust with another error
+  -- and exactly, by the end: it is, unless the flags of the end are a word at which the two orders differ; there ours ends with Bus, and the Rust
+  -- with another error
   pub unmoved : (c : Call) (block bytes : List ℕ) → Reads c bytes → Accepted c block bytes → (turns : ℕ) (answers : List ℕ) → length answers < turns
       → checkDeparts (checksOf c) (endAfter c block bytes answers) ≡ false → IsTheRust c block bytes answers (rust turns c (length bytes) answers)
   pub moved : (c : Call) (block bytes : List ℕ) → Reads c bytes → Accepted c block bytes → (turns : ℕ) (answers : List ℕ) → length answers < turns

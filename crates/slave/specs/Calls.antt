@@ -65,26 +65,28 @@ sizeRefusal size = cond (ltb 65535 size) (some BufferTooLong) none
 unfoldable pub slaveShown : Chip → Kind → SlaveLent → List ℕ → Shown
 slaveShown chip x l answers = seenAfter (sizeRefusal (sizeOf x l)) (shownFrom (slave (settingOf chip x l)) (bytesOf x l) (start x) answers)
 
+-- the text over its parts: the error check, what a reply counts, and what it returns of this
+abbrev pub programWith : (ℕ → Blocking (Unit {0})) → (Counts : Type 0) → (ℕ → ℕ → ℕ → Counts) → (Counts → Ending) → ℕ → Chip → Kind → SlaveLent → Program
+programWith check Counts counts left turns chip Listen l = callOf (rust.blocking-listen chip check) (λ c. returned (commandNumber c)) turns
+programWith check Counts counts left turns chip RespondToWrite l = callOf (rust.blocking-respond-to-write chip check (l .room)) (λ n. returned n) turns
+programWith check Counts counts left turns chip RespondToRead l = callOf (rust.blocking-respond-to-read chip check Counts counts (l .reply)) left turns
+
 -- the Rust: the text with the Rust's own parts
 abbrev pub rustProgramWith : (ℕ → Blocking (Unit {0})) → ℕ → Chip → Kind → SlaveLent → Program
-rustProgramWith check turns chip Listen l = callOf (rust.blocking-listen chip check) (λ c. returned (commandNumber c)) turns
-rustProgramWith check turns chip RespondToWrite l = callOf (rust.blocking-respond-to-write chip check (l .room)) (λ n. returned n) turns
-rustProgramWith check turns chip RespondToRead l = callOf (rust.blocking-respond-to-read chip check rust.SendStatus (λ star1. rust.send-status) (l .reply)) (λ s. returned (statusNumber s)) turns
+rustProgramWith check = programWith check rust.SendStatus (λ star1. rust.send-status) (λ s. returned (statusNumber s))
 
 abbrev pub rustProgram : ℕ → Chip → Kind → SlaveLent → Program
-rustProgram turns chip x l = rustProgramWith (rust.slave-handle-errors chip) turns chip x l
+rustProgram turns chip = rustProgramWith (rust.slave-handle-errors chip) turns chip
 
--- ours, over any error check; a reply returns both its counts
+-- ours; a reply returns both its counts
 abbrev pub bothLeft : ours.Counts → Ending
 bothLeft c = returnedBoth (statusNumber (c .status)) (statusNumber (c .second))
 
 abbrev pub oursProgramWith : (ℕ → Blocking (Unit {0})) → ℕ → Chip → Kind → SlaveLent → Program
-oursProgramWith check turns chip Listen l = callOf (rust.blocking-listen chip check) (λ c. returned (commandNumber c)) turns
-oursProgramWith check turns chip RespondToWrite l = callOf (rust.blocking-respond-to-write chip check (l .room)) (λ n. returned n) turns
-oursProgramWith check turns chip RespondToRead l = callOf (rust.blocking-respond-to-read chip check ours.Counts (ours.counts chip) (l .reply)) (λ c. bothLeft c) turns
+oursProgramWith check turns chip = programWith check ours.Counts (ours.counts chip) bothLeft turns chip
 
 abbrev pub oursProgram : ℕ → Chip → Kind → SlaveLent → Program
-oursProgram turns chip x l = oursProgramWith (ours.slave-handle-errors chip) turns chip x l
+oursProgram turns chip = oursProgramWith (ours.slave-handle-errors chip) turns chip
 
 unfoldable pub rustSlave : ℕ → Chip → Kind → SlaveLent → List ℕ → Shown
 rustSlave turns chip x l answers = shownOf 0 (rustProgram turns chip x l) answers
