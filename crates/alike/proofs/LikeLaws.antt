@@ -14,7 +14,7 @@ use Rattle.access.specs.Endings.{failureOf, failed}
 use Rattle.access.specs.Program.{Access, read, Program, finish, access, keep, cut, Blocking, pure, throw, readRegister, writeRegister, modify, sendData, store, if_then_else_, onlyIf, orElse, onDrop, while, forEach, spin, Turn, continue, return, turned, spinFrom, loop, late, checkTimeout, callOf, _>>_, _>>=_}
 use Rattle.access.specs.Record.{Event, Shown, noMore, event, arrival, answerTo, shownOf}
 use Rattle.access.proofs.Choice.{first-true, second-true, both-true}
-use Rattle.alike.specs.Like.{forgetEnd, forgetting, answerAllowed, allAllowed, anyAnswer, Like, Handles, Alike}
+use Rattle.alike.specs.Like.{forgetEnd, forgetting, answerAllowed, allAllowed, anyAnswer, Like, Alike}
 
 module _ {forget : Ending → Ending} {allowed : Access → ℕ → Bool} where
   -- ---- programs

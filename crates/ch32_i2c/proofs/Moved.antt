@@ -1,11 +1,9 @@
 -- Where the Rust's error is another than ours, by the flags of an end that a call can have.
 -- Assumes nothing.
-use mathlib.Core.Path.{_≡_, refl, sym, ap, _∙_}
+use mathlib.Core.Path.{_≡_, refl, sym, ap}
 use mathlib.Core.Bool.{Bool, true, false, not, _&&_, true≢false}
 use mathlib.Core.Option.{Option, none, some}
-use lib.Dec.{eqb}
 use borrow.Author.Tests.{eqb-true}
-use Rattle.registers.specs.declared.chip.Chip.{Chip}
 use Rattle.registers.specs.Bits.{BERR, ARLO}
 use Rattle.registers.specs.Word.{hasBit}
 use Rattle.access.specs.declared.ending.Ending.{Ending}
@@ -15,7 +13,7 @@ use Rattle.access.specs.Endings.{failed}
 use Rattle.access.proofs.EndingLaws.{both-same}
 use Rattle.alike.specs.Like.{forgetEnd}
 use Rattle.errors.specs.AsTheRust.{asTheRust, addedForgotten}
-use Rattle.errors.specs.Departs.{betweenFlag, endDeparts}
+use Rattle.errors.specs.Departs.{betweenFlag}
 use Rattle.errors.specs.Met.{isMet}
 use Rattle.errors.proofs.CheckLaws.{second-forgotten}
 use Rattle.errors.proofs.DepartLaws.{end-is-the-rusts}

@@ -12,7 +12,6 @@ use Rattle.registers.specs.Flags.{errorFlags, clearError}
 use Rattle.registers.proofs.FlagLaws.{same-flags}
 use Rattle.access.specs.declared.ending.Error.{Error}
 use Rattle.access.specs.declared.ending.Error.the-variants.{Bus, Nack, Timeout}
-use Rattle.access.specs.declared.ending.Ending.{Ending}
 use Rattle.access.specs.declared.ending.Ending.the-variants as ending
 use Rattle.access.specs.declared.ending.Failure.{Failure}
 use Rattle.access.specs.Endings.{flagged, failureOf, failed}

@@ -23,7 +23,7 @@ use Rattle.errors.specs.Classes.{errorOf, decided}
 use Rattle.errors.specs.Met.{sameError, sameFailure, unchecked, isMet}
 use Rattle.errors.specs.AsTheRust.{rustChain, rustOf, asTheRust}
 use Rattle.errors.specs.Departs.{busFlag, betweenFlag, departs, unflagged, sameClass, ClassIsTheRusts, EndIsTheRusts}
-use Rattle.errors.proofs.ClassLaws.{decided-if, as-ifs}
+use Rattle.errors.proofs.ClassLaws.{decided-if, chain, as-ifs}
 
 -- what follows the Rust's chain goes by what it finds
 pub by-rust {ℓ} : {X : Type ℓ} (chip : Chip) (nack : Bool) (w : ℕ) (h : Failure → X) (p : X) → decided (rustOf chip nack w) h p ≡ rustChain chip nack w h p
@@ -32,13 +32,7 @@ by-rust chip nack w h p = simp decided-if
 -- ---- both orders over the six tests: ARLO, BERR, TIMEOUT, PECERR, OVR, AF, each where it is an error
 
 abbrev ours : ℕ → (a b t c o n : Bool) → Checked
-ours fs a b t c o n =
-    cond a (Failed (flagged Arbitration fs))
-    (cond b (Failed (flagged Bus fs))
-    (cond t (Failed (flagged Timeout fs))
-    (cond c (Failed (flagged Crc fs))
-    (cond o (Failed (flagged Overrun fs))
-    (cond n (Failed (flagged Nack fs)) Fine)))))
+ours fs a b t c o n = chain a b t c o n (λ e. Failed (flagged e fs)) Fine
 
 abbrev rusts : (a b t c o n : Bool) → Checked
 rusts a b t c o n =

@@ -16,7 +16,7 @@ use Rattle.access.specs.declared.ending.Error.{Error}
 use Rattle.access.specs.declared.ending.Error.the-variants.{Timeout}
 use Rattle.access.specs.declared.ending.Ending.{Ending}
 use Rattle.access.specs.Endings.{failed}
-use Rattle.access.specs.Program.{Access, read, Blocking, checkTimeout, continue, return}
+use Rattle.access.specs.Program.{Access, read, Blocking, continue, return}
 use Rattle.alike.specs.Like.{Alike}
 use Rattle.alike.proofs.LikeLaws.{pure-alike, _>>=-alike_, _>>-alike_, read-alike, read-then, write-alike, modify-alike, send-alike, store-alike, if-alike, only-alike, drop-alike, loop-alike, timeout-alike}
 use Rattle.slave.specs.Rust.{clear-stopf, clear-af, clear-slave-stale-flags, decode-slave-address, disable-slave-transfers, abort-slave-transfer, kind-of, taken-off, check-errors-and-time, blocking-listen, blocking-respond-to-write, blocking-respond-to-read}
