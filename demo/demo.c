@@ -70,8 +70,8 @@ static void whole_result(uint64_t end, unsigned wanted, unsigned flags)
         unsigned flag;
         const char *name;
     } names[] = {
-        {CH32_I2C_FLAG_ARLO, "arbitration lost"}, {CH32_I2C_FLAG_TIMEOUT, "timeout"},   {CH32_I2C_FLAG_PECERR, "PEC error"},
-        {CH32_I2C_FLAG_OVR, "overrun"},           {CH32_I2C_FLAG_AF, "no acknowledge"}, {CH32_I2C_FLAG_BERR, "bus error"},
+        {CH32_I2C_FLAG_ARLO, "arbitration lost"}, {CH32_I2C_FLAG_BERR, "bus error"}, {CH32_I2C_FLAG_TIMEOUT, "timeout"},
+        {CH32_I2C_FLAG_PECERR, "PEC error"},      {CH32_I2C_FLAG_OVR, "overrun"},    {CH32_I2C_FLAG_AF, "no acknowledge"},
     };
     size_t i;
     result(ch32_i2c_end_of(end), wanted);
@@ -203,6 +203,20 @@ static void line_disturbed(void)
     temperature("write-read from the sensor");
 }
 
+/* A broken line raises both. With ch32v4 the end is the bus error, so that nobody looks for the device; without it no bus error is reported. */
+static void line_broken(void)
+{
+    static const uint8_t limit[3] = {3, 0x50, 0x00};
+    struct ch32_i2c_port ch32v4 = port;
+    ch32v4.chip |= CH32_I2C_CHIP_CH32V4;
+    sim_break_line();
+    call("write a limit to the sensor, over a broken line");
+    whole_result(ch32_i2c_write_whole(&port, SENSOR, limit, sizeof limit), CH32_I2C_NACK, CH32_I2C_FLAG_AF | CH32_I2C_FLAG_BERR);
+    sim_break_line();
+    call("the same as a chip with ch32v4");
+    whole_result(ch32_i2c_write_whole(&ch32v4, SENSOR, limit, sizeof limit), CH32_I2C_BUS, CH32_I2C_FLAG_AF | CH32_I2C_FLAG_BERR);
+}
+
 static void fast(void)
 {
     call("init: bus at 400 kHz");
@@ -281,6 +295,7 @@ int main(int count, char **arguments)
     late();
     late_twice();
     line_disturbed();
+    line_broken();
     fast();
     refused();
     gauge();

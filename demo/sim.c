@@ -27,6 +27,7 @@ static int shift_full, data_full; /* a received byte waits in the shift register
 static int receiving, sending, acknowledged, ack_before, status_read;
 static int scl = 1, sda = 1;
 static int disturbed; /* the next byte sent will be */
+static int broken;    /* the line is, at the next address */
 static struct device *devices[4], *selected;
 static unsigned device_count;
 
@@ -152,14 +153,18 @@ static void lose_bus(uint64_t t)
 
 void sim_disturb(void) { disturbed = 1; }
 
+void sim_break_line(void) { broken = 1; }
+
 /* The eight bits are out, at time t: the ninth. */
 static void acknowledge(uint64_t t)
 {
     uint16_t control = reg[CH32_I2C_CTLR1];
     if (piece == ADDRESS_BITS) {
-        selected = device_at(shift >> 1);
+        selected = broken ? NULL : device_at(shift >> 1);
         acknowledged = selected && selected->start(selected, shift & 1, t);
         say(shift & 1 ? "[%02x+R] " : "[%02x+W] ", shift >> 1);
+        if (broken)
+            say("(line broken) ", 0);
         take(ADDRESS_ACK, t, 1);
     } else if (piece == SENDING_BITS && disturbed) {
         lose_bus(t);
@@ -208,7 +213,8 @@ static void end_piece(uint64_t t)
         say("START ", 0);
         break;
     case ADDRESS_ACK:
-        *status |= acknowledged ? ADDR : AF;
+        *status |= acknowledged ? ADDR : broken ? AF | BERR : AF;
+        broken = 0;
         *status2 = (uint16_t)((*status2 & ~TRA) | (shift & 1 ? 0 : TRA));
         status_read = 0;
         break;

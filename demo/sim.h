@@ -61,6 +61,9 @@ void sim_other_master_reads(unsigned address, unsigned count);
 /* Something pulls SDA low in the next byte sent. */
 void sim_disturb(void);
 
+/* The line breaks under the next address: no device hears it, and its edge is a misplaced START. */
+void sim_break_line(void);
+
 /* What happened on the wire since this was last asked: START, [address+direction], ACK or NACK, bytes, STOP; notes in brackets ( ). */
 const char *sim_wire(void);
 

@@ -74,7 +74,7 @@ enum ch32_i2c_register {
 /* How a call ends. 1 to 6 are met on the bus. 6 and 8 to 17 refuse a call before any access, and 15 a step. (7 is never given.) */
 enum ch32_i2c_end {
     CH32_I2C_DONE = 0,
-    CH32_I2C_BUS = 1,                  /* misplaced START or STOP on the bus; chips with ch32v4 alone */
+    CH32_I2C_BUS = 1,                  /* misplaced START or STOP, as on a broken line; chips with ch32v4 alone, there before all but 2 */
     CH32_I2C_ARBITRATION = 2,          /* another master won the bus, or START was not ours */
     CH32_I2C_NACK = 3,                 /* no acknowledge, to the address or to a byte */
     CH32_I2C_TIMEOUT = 4,              /* the clock was late, or the peripheral's own timeout flag (i2c_v3) */
@@ -92,7 +92,8 @@ enum ch32_i2c_end {
     CH32_I2C_RESERVED_ADDRESS = 17     /* own or second address that UM10204 reserves: 0x01 to 0x07, 0x78 to 0x7f; or a second address 0 */
 };
 
-/* The error flags of STAR1 (ch32_i2c_flags_of). */
+/* The error flags of STAR1 (ch32_i2c_flags_of). Where a word has several that are errors, the end is the first of ARLO, BERR, TIMEOUT, PECERR,
+ * OVR, AF. (ch32-hal has BERR last: a broken line, which raises BERR and AF, is a Nack there.) */
 enum ch32_i2c_flag {
     CH32_I2C_FLAG_BERR = 0x0100,    /* misplaced START or STOP: CH32_I2C_BUS with ch32v4, else no error */
     CH32_I2C_FLAG_ARLO = 0x0200,    /* arbitration lost: CH32_I2C_ARBITRATION */
@@ -103,8 +104,8 @@ enum ch32_i2c_flag {
     CH32_I2C_FLAGS = 0x5f00         /* all of them */
 };
 
-/* The chip: two properties, free of each other. i2c_v3: there is RTR, and TIMEOUT is an error. ch32v4: BERR is an error, and the input
- * clock is set as at most 60 MHz. */
+/* The chip: two properties, free of each other. i2c_v3: there is RTR, and TIMEOUT is an error. ch32v4: BERR is an error, and comes before
+ * a missing acknowledge; and the input clock is set as at most 60 MHz. */
 enum ch32_i2c_chip {
     CH32_I2C_CHIP_PLAIN = 0,
     CH32_I2C_CHIP_V3 = 1,

@@ -1,5 +1,5 @@
-/* An end of the library as the Rust's, by C's number: what the Rust lacks is forgotten. The same as crates/errors/specs/AsTheRust.antt,
-   and the one place by which every comparison with the Rust holds an end. */
+/* An end of the library as the unchanged Rust's, by C's number: what the Rust lacks is forgotten, and an error that a check decided
+   becomes the one that the Rust's order finds among its flags. The same as crates/errors/specs/AsTheRust.antt. */
 #ifndef AS_THE_RUST_H
 #define AS_THE_RUST_H
 

@@ -121,6 +121,18 @@ static uint64_t end_as_the_rust(const struct call *c, uint64_t end)
 /* What stands beside an end: the second count at 0, the flags at an error. */
 static uint16_t extra_of(uint64_t end) { return (uint16_t)((end & 0xffff) == 0 ? end >> 32 & 0xffff : end >> 48); }
 
+/* The library's own number for a stored end: on ch32v4 an error with BERR and without ARLO among its flags is a bus error. */
+static uint32_t own_end(const struct call *c, uint64_t stored, uint16_t extra)
+{
+    const int bus = c->chip & 2 && (stored & 0xffff) != 0 && (extra & 0x0300) == 0x0100;
+    return bus ? 1 << 8 : (uint32_t)stored;
+}
+
+static int is_end(const struct call *c, uint64_t next, uint64_t stored, uint16_t extra)
+{
+    return end_as_the_rust(c, next) == stored && extra_of(next) == extra && (uint32_t)next == own_end(c, stored, extra);
+}
+
 /* One call. Returns whether all is as stored. */
 static int replay(const uint8_t *at)
 {
@@ -135,7 +147,7 @@ static int replay(const uint8_t *at)
         const unsigned code = number(&at, 1);
         uint16_t answer = 0, extra = 0;
         const uint64_t wanted = expected(code, &at, &answer, &extra);
-        if (code == 0 ? end_as_the_rust(&c, next) != wanted || extra_of(next) != extra : next != wanted)
+        if (code == 0 ? !is_end(&c, next, wanted, extra) : next != wanted)
             return 0;
         if (code == 0 && first && wanted != 0 && memcmp(block, block_before, sizeof block) != 0)
             return 0;

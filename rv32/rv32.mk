@@ -52,7 +52,7 @@ $(RV32)/mailbox.a: rv32/mailbox_host.c rv32/mailbox.h include/ch32_i2c.h
 	@$(CC) -std=gnu99 -O2 -Wall -Wextra -Werror -Iinclude -c $< -o $(RV32)/mailbox_host.o
 	@rm -f $@ && $(AR) rcs $@ $(RV32)/mailbox_host.o
 
-$(RV32)/compare: $(ORACLE)/liboracle.rlib $(CHIP_LIBS) $(ORACLE)/as_the_rust.o $(RV32)/mailbox.a $(wildcard oracle/program/*.rs)
+$(RV32)/compare: $(ORACLE)/liboracle.rlib $(ALL_CHIPS) $(ORACLE)/as_the_rust.o $(RV32)/mailbox.a $(wildcard oracle/program/*.rs)
 	@$(BIN) -C link-arg=$(RV32)/mailbox.a --crate-name compare -o $@ oracle/program/compare.rs
 
 rv32-compare rv32-faults:

@@ -20,6 +20,21 @@ uint64_t __real_ch32_i2c_is_critical(const uint8_t *, size_t);
 /* An end with an error from 1 to 6, and one that has flags. */
 #define IS_ERROR(next) (((next) & 0xff) == 0 && (next) >> 8 != 0 && ((next) >> 8 & 0xff) < 7)
 #define HAS_FLAGS(next) (IS_ERROR(next) && (next) >> 48 != 0)
+#define FLAGS(next) ((unsigned)((next) >> 48))
+#define IS_BUS(next) (((next) & 0xffff) == 0x0100)
+
+enum { BERR = 0x0100, ARLO = 0x0200, AF = 0x0400, OVR = 0x0800, PECERR = 0x1000, TIMEOUT = 0x4000 };
+
+/* The block's chip. */
+#define IS_V3(block) ((block)[1] & 1)
+#define IS_CH32V4(block) ((block)[1] & 2)
+
+/* An end with another number. */
+#define AS(next, number) (((next) & ~(uint64_t)0xff00) | (uint64_t)(number) << 8)
+
+/* An end with Bus as the Rust has it, with BERR last. */
+#define BERR_LAST(next, block, master)                                                                                                    \
+    AS(next, IS_V3(block) && FLAGS(next) & TIMEOUT ? 4 : FLAGS(next) & PECERR ? 5 : FLAGS(next) & OVR ? 6 : (master) && FLAGS(next) & AF ? 3 : 1)
 
 uint64_t __wrap_ch32_i2c_init_begin(uint8_t *block, size_t n, uint8_t chip, uint32_t input, uint32_t frequency, uint8_t duty)
 {
@@ -89,6 +104,21 @@ uint64_t __wrap_ch32_i2c_write_step(uint8_t *block, size_t n, const uint8_t *wri
     if (HAS_FLAGS(next))
         next &= (uint64_t)deciding[next >> 8 & 0xff] << 48 | 0xffffffffffff;
 #endif
+#ifdef FAULT_berr_before_arlo
+    if (HAS_FLAGS(next) && IS_CH32V4(block) && FLAGS(next) & BERR)
+        next = AS(next, 1);
+#endif
+#ifdef FAULT_berr_behind_af
+    if (IS_BUS(next) && (FLAGS(next) & ~TIMEOUT) == (BERR | AF))
+        next = AS(next, 3);
+#endif
+#ifdef FAULT_berr_decides_on_other_chips
+    static uint64_t asked;
+    const int checked = asked == 0x0501 && (next & 0xffff) == 0x0502;
+    asked = next;
+    if (n == 32 && checked && !IS_CH32V4(block) && (answer & 0x5f00) == BERR)
+        next = (uint64_t)1 << 8 | (uint64_t)BERR << 48;
+#endif
 #ifdef FAULT_flags_at_a_late_clock
     if (next == (uint64_t)4 << 8)
         next |= (uint64_t)0x4000 << 48;
@@ -116,6 +146,10 @@ uint64_t __wrap_ch32_i2c_read_step(uint8_t *block, size_t n, uint8_t *read, size
     if (HAS_FLAGS(next))
         next = (next & 0xffffffffffff) | (uint64_t)(status_before & 0x5f00) << 48;
 #endif
+#ifdef FAULT_berr_behind_timeout
+    if (IS_BUS(next) && IS_V3(block) && FLAGS(next) & TIMEOUT)
+        next = AS(next, 4);
+#endif
 #ifdef FAULT_byte_left_alone_cleared
     if ((next & 0xff) == 0 && (next >> 8) != 0 && (next >> 8) < 15 && length > 0)
         read[length - 1] = 0;
@@ -139,6 +173,14 @@ uint64_t __wrap_ch32_i2c_transaction_step(uint8_t *block, size_t n, const uint8_
     if (next == 0 && list_length > 6)
         ((uint8_t *)list)[list_length - 1] ^= 1;
 #endif
+#ifdef FAULT_berr_last
+    if (IS_BUS(next))
+        next = BERR_LAST(next, block, 1);
+#endif
+#ifdef FAULT_berr_moved_on_other_chips
+    if (HAS_FLAGS(next) && !IS_CH32V4(block) && FLAGS(next) & BERR && !(FLAGS(next) & ARLO))
+        next = AS(next, 1);
+#endif
 #ifdef FAULT_flags_by_payload
     if (HAS_FLAGS(next) && written_length > 0)
         next ^= (uint64_t)(written[0] & 1) << 56;
@@ -153,6 +195,10 @@ uint64_t __wrap_ch32_i2c_transaction_step(uint8_t *block, size_t n, const uint8_
 uint64_t __wrap_ch32_i2c_listen_step(uint8_t *block, size_t n, uint16_t answer)
 {
     uint64_t next = __real_ch32_i2c_listen_step(block, n, answer);
+#ifdef FAULT_slaves_berr_last
+    if (IS_BUS(next))
+        next = BERR_LAST(next, block, 0);
+#endif
 #ifdef FAULT_af_not_among_a_slaves_flags
     if (HAS_FLAGS(next))
         next &= ~((uint64_t)0x0400 << 48);
@@ -167,6 +213,14 @@ uint64_t __wrap_ch32_i2c_listen_step(uint8_t *block, size_t n, uint16_t answer)
 uint64_t __wrap_ch32_i2c_respond_to_write_step(uint8_t *block, size_t n, uint8_t *buffer, size_t length, uint16_t answer)
 {
     uint64_t next = __real_ch32_i2c_respond_to_write_step(block, n, buffer, length, answer);
+#ifdef FAULT_slaves_berr_moved_on_other_chips
+    if (HAS_FLAGS(next) && !IS_CH32V4(block) && FLAGS(next) & BERR && !(FLAGS(next) & ARLO))
+        next = AS(next, 1);
+#endif
+#ifdef FAULT_slaves_berr_behind_timeout
+    if (IS_BUS(next) && IS_V3(block) && FLAGS(next) & TIMEOUT)
+        next = AS(next, 4);
+#endif
 #ifdef FAULT_flags_lost_in_the_abort
     if (HAS_FLAGS(next))
         next &= 0xffffffffffff;
@@ -181,6 +235,10 @@ uint64_t __wrap_ch32_i2c_respond_to_write_step(uint8_t *block, size_t n, uint8_t
 uint64_t __wrap_ch32_i2c_respond_to_read_step(uint8_t *block, size_t n, const uint8_t *data, size_t length, uint16_t answer)
 {
     uint64_t next = __real_ch32_i2c_respond_to_read_step(block, n, data, length, answer);
+#ifdef FAULT_slaves_berr_before_arlo
+    if (HAS_FLAGS(next) && IS_CH32V4(block) && FLAGS(next) & BERR)
+        next = AS(next, 1);
+#endif
 #ifdef FAULT_second_count_as_the_first
     if ((next & 0xffff) == 0)
         next = (next & 0xffff0000) | (next & 0xffff0000) << 16;

@@ -1,7 +1,8 @@
 //! Document 01's bench input, run on the Rust. Meant for well-formed input: a bad line is named, and that is all.
 
-use record::{Call, Entry, Given, Record};
+use record::{Call, Entry};
 
+use crate::flags::Order;
 use crate::{ends, rust, text};
 
 fn hex_number(text: &str) -> Option<u16> {
@@ -35,8 +36,8 @@ fn read_line(call: &mut Call, answers: &mut Vec<u16>, line: &str) -> Option<()> 
     Some(())
 }
 
-/// What the bench program prints for this input.
-pub fn run(input: &str) -> String {
+/// What the Rust makes of this input in an order, as the bench program prints it. The bench program's own order is the port's.
+pub fn run(input: &str, order: Order) -> String {
     let mut call = Call::new(Entry::Transaction);
     let mut answers = Vec::new();
     for (index, line) in input.lines().enumerate() {
@@ -44,8 +45,7 @@ pub fn run(input: &str) -> String {
             return format!("bad,{}\n", index + 1);
         }
     }
-    let source = Box::new(Given { answers, used: 0 });
-    text::record_text(&rust::run(&call, Record::default(), source, false))
+    text::record_text(&rust::run_in(order, &call, &answers))
 }
 
 /// The bench input of a transaction, if it can be said in one: a chip that exists, a sound list, not too long.

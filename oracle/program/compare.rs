@@ -1,4 +1,4 @@
-//! `compare`: the carried Rust and the C library on the same calls.
+//! `compare`: the carried Rust and the C library on the same calls; on `ch32v4` the Rust in the port's order of errors too.
 //!
 //!     compare SEED CALLS [ENTRY [CHIP]]    random calls, CALLS of each entry on each chip
 //!     compare until SEED CALLS    the same calls, all entries and chips by turns, up to the first difference
@@ -158,10 +158,11 @@ fn compare_all(seed: u64, calls: u64, entries: &[Entry], chips: &[u8]) {
     }
     beside.check();
     println!(
-        "{} calls, {} accesses, {} refused steps tried, 0 differences, {:.1} s",
+        "{} calls, {} accesses, {} refused steps tried, {} calls on the reordered Rust too, 0 differences, {:.1} s",
         total.calls,
         total.accesses,
         player.refused_steps,
+        player.reordered_calls,
         began.elapsed().as_secs_f64()
     );
 }

@@ -1,11 +1,13 @@
-//! Document 01's edges, as it gives them, and document 02's reserved addresses, second counts and flags, looked up in what the
-//! Rust does behind the added causes, with count and flags kept beside it. Answers are 0 where none are given.
+//! Document 01's edges, as it gives them, and document 02's reserved addresses, second counts, flags and order of errors, looked
+//! up in what the Rust does behind the added causes, unchanged and in the port's order, with count and flags kept beside it.
+//! Answers are 0 where none are given.
 
-use record::{Given, Record};
+use record::{Call, Entry};
 
+use crate::flags::{self, Departing, Order};
 use crate::{rust, text};
 
-/// A call, and a line that is to be in its record.
+/// A call, and a line that is to be in its record in both orders.
 const EDGES: [(&str, &str); 42] = [
     ("entry=init input=36000000 frequency=100000", "w,CKCFGR,00b4"),
     ("entry=init input=36000000 frequency=400000", "w,CKCFGR,801e"),
@@ -67,21 +69,61 @@ const EDGES: [(&str, &str); 42] = [
     ),
 ];
 
+/// A call, its last line in the Rust's order and in the port's: on `ch32v4` a bus error comes before all but ARLO.
+const ORDERED: [(&str, &str, &str); 12] = [
+    ("entry=write option=3 chip=2 written=aa answers=0500", "end,3,4,0500", "end,1,4,0500"),
+    ("entry=write option=3 chip=3 written=aa answers=0500", "end,3,4,0500", "end,1,4,0500"),
+    ("entry=write option=3 chip=2 written=aa answers=0700", "end,2,4,0700", "end,2,4,0700"),
+    ("entry=write option=3 chip=0 written=aa answers=0500", "end,3,4,0500", "end,3,4,0500"),
+    ("entry=write option=3 chip=1 written=aa answers=0500", "end,3,4,0500", "end,3,4,0500"),
+    // TIMEOUT is an error with `i2c_v3` alone.
+    ("entry=write option=3 chip=2 written=aa answers=4100", "end,1,4,4100", "end,1,4,4100"),
+    ("entry=write option=3 chip=3 written=aa answers=4100", "end,4,4,4100", "end,1,4,4100"),
+    ("entry=write option=3 chip=3 written=aa answers=1100", "end,5,4,1100", "end,1,4,1100"),
+    ("entry=respond_to_write chip=2 read=00 answers=0900", "end,6,3,0900", "end,1,3,0900"),
+    ("entry=respond_to_write chip=3 read=00 answers=0900", "end,6,3,0900", "end,1,3,0900"),
+    ("entry=respond_to_write chip=0 read=00 answers=0900", "end,6,3,0900", "end,6,3,0900"),
+    // AF is no error in a slave.
+    ("entry=respond_to_write chip=2 read=00 answers=0500", "end,1,3,0500", "end,1,3,0500"),
+];
+
+/// What is wrong where the Rust in this order does something else.
+fn difference(order: Order, line: &str, wanted: &str) -> Option<String> {
+    let (call, mut answers) = text::parse_call(line).expect("a call");
+    answers.resize(40, 0);
+    let shown = text::record_text(&rust::run_in(order, &call, &answers));
+    let is_there = shown.lines().any(|line| line == wanted);
+    (!is_there).then(|| format!("{line}: not {wanted}, but\n{shown}"))
+}
+
 /// The edges at which the Rust does something else.
 pub fn differences() -> Vec<String> {
-    let mut differences = Vec::new();
-    for (line, wanted) in EDGES {
-        let (call, mut answers) = text::parse_call(line).expect("a call");
-        answers.resize(40, 0);
-        let shown = text::record_text(&rust::run(
-            &call,
-            Record::default(),
-            Box::new(Given { answers, used: 0 }),
-            false,
-        ));
-        if !shown.lines().any(|line| line == wanted) {
-            differences.push(format!("{line}: not {wanted}, but\n{shown}"));
+    let both = EDGES.iter().map(|(line, wanted)| (line, wanted, wanted));
+    let ordered = ORDERED.iter().map(|(line, rust, port)| (line, rust, port));
+    let each = both.chain(ordered).flat_map(|(line, rust, port)| [(Order::Rust, line, rust), (Order::Port, line, port)]);
+    each.filter_map(|(order, line, wanted)| difference(order, line, wanted)).collect()
+}
+
+/// Every set of error flags in a word that a master or a slave checks, on every chip: the end is the order's in the Rust and in
+/// its reordered copy, and the two differ where `flags::departs` says.
+pub fn orders() -> Result<Departing, String> {
+    let mut departing = Departing::default();
+    for entry in [Entry::Write, Entry::RespondToWrite] {
+        for place in 0..256 {
+            let mut call = Call::new(entry);
+            let flags = (place & 31) << 8 | (place & 32) << 9;
+            (call.chip, call.option) = ((place >> 6) as u8, if entry == Entry::Write { 3 } else { 0 });
+            call.written.resize((entry == Entry::Write) as usize, 0);
+            let ends = [Order::Rust, Order::Port].map(|order| {
+                let end = rust::run_in(order, &call, &[flags, 0, 0, 0, 0, 0]).end;
+                (end.map(|end| (end >> 8) as u8), flags::decided(&call, order, flags))
+            });
+            let departs = ends[0].0 != ends[1].0;
+            if ends.iter().any(|(end, decided)| end != decided) || departs != flags::departs(&call, flags) {
+                return Err(format!("{} on chip {}, flags {flags:04x}: {ends:?}", entry.name(), call.chip));
+            }
+            departing.add(&call, flags);
         }
     }
-    differences
+    Ok(departing)
 }

@@ -1,4 +1,4 @@
-//! The library's ends as the Rust's, by oracle/as_the_rust.c.
+//! The library's ends as the unchanged Rust's, by oracle/as_the_rust.c.
 
 use record::{Call, Entry};
 

@@ -1,13 +1,14 @@
 //! `oracle`: calls on the carried Rust alone.
 //!
-//!     oracle bench    document 01's bench input from standard input, as the Rust runs it
+//!     oracle bench    document 01's bench input from standard input, as the Rust runs it in the port's order of errors
 //!     oracle lines    calls from standard input, one line each, with their records
 //!     oracle calls SEED COUNT [ENTRY [CHIP]]    random calls as lines
 //!     oracle sample FILE SEED TRIES lines|ways    chooses the sample and writes it
-//!     oracle bench-cases DIRECTORY SEED COUNT    bench inputs with what the Rust makes of them
-//!     oracle bench-compare DIRECTORY    the bench program's outputs for them, held to the Rust's
+//!     oracle bench-cases DIRECTORY SEED COUNT    bench inputs with what the bench program is to print
+//!     oracle bench-compare DIRECTORY    the bench program's outputs for them, held to that and to the unchanged Rust's
 //!     oracle check FILE    runs a sample's calls again
 //!     oracle document    the documents' edges, looked up in what the Rust does
+//!     oracle orders    every set of error flags, on every chip, in the Rust's order and in the port's
 //!     oracle panics SEED COUNT    bus settings that are refused with 10, 11 or 12, given to the Rust all the same
 //!     oracle reserved SEED COUNT    own addresses that are refused with 17, given to the Rust all the same
 
@@ -17,6 +18,7 @@ use std::collections::HashSet;
 use std::io::Read;
 use std::process::exit;
 
+use oracle::flags::{Departing, Order};
 use oracle::generate::{Generator, Sizes};
 use oracle::sample::{Chosen, Detail};
 use oracle::{bench, causes, coverage, document, rust, sample, sample_file, text};
@@ -109,7 +111,7 @@ fn write_sample(path: &str, seed: u64, tries: u64, detail: Detail) {
     }
 }
 
-/// Writes N.in and N.out for random transactions that the bench program can be given.
+/// Writes N.in and N.out, what the bench program is to print, for random transactions that it can be given.
 fn bench_cases(directory: &str, seed: u64, count: u64) {
     std::fs::create_dir_all(directory).expect("the directory can be made");
     for number in 0..count {
@@ -120,35 +122,44 @@ fn bench_cases(directory: &str, seed: u64, count: u64) {
         let mut answers = outcome.record.answers;
         answers.extend((0..generator.random.below(3)).map(|_| generator.random.word()));
         if let Some(input) = bench::input_of(&call, &answers) {
-            std::fs::write(format!("{directory}/{number}.out"), bench::run(&input)).expect("written");
+            std::fs::write(format!("{directory}/{number}.out"), bench::run(&input, Order::Port)).expect("written");
             std::fs::write(format!("{directory}/{number}.in"), input).expect("written");
         }
     }
 }
 
-/// Holds the bench program's outputs, N.got, to what the Rust made of the inputs N.in.
+/// Holds the bench program's outputs, N.got, to what it is to print, N.out; and with the end as the Rust's to what the unchanged
+/// Rust makes of the inputs N.in.
 fn bench_compare(directory: &str) {
-    let mut count = 0;
+    let (mut count, mut departing) = (0, 0);
     for entry in std::fs::read_dir(directory).expect("the directory can be read") {
         let path = entry.expect("the directory can be read").path();
         if path.extension().is_none_or(|extension| extension != "in") {
             continue;
         }
         let text = |extension| std::fs::read_to_string(path.with_extension(extension)).expect("a text");
-        let got = bench::as_the_rust(&text("in"), &text("got"));
-        if got != Some(text("out")) {
+        let (input, got) = (text("in"), text("got"));
+        let unchanged = bench::run(&input, Order::Rust);
+        if got != text("out") || bench::as_the_rust(&input, &got).as_ref() != Some(&unchanged) {
             println!("differs: {}", path.display());
             exit(1);
         }
         count += 1;
+        departing += (got != unchanged) as u64;
     }
-    println!("{count} bench inputs, 0 differences");
+    println!("{count} bench inputs, 0 differences; in {departing} of them Bus where the Rust has another error");
+    if count >= 1000 && departing == 0 {
+        println!("a case was not met");
+        exit(1);
+    }
 }
 
 fn check_sample(path: &str) {
     let bytes = std::fs::read(path).expect("the sample can be read");
     let calls = sample_file::decode(&bytes);
+    let mut departing = Departing::default();
     for (number, (sampled, stored)) in calls.iter().enumerate() {
+        departing.add(&sampled.call, stored.flags);
         let answers = Box::new(Given {
             answers: stored.record.answers.clone(),
             used: 0,
@@ -163,7 +174,11 @@ fn check_sample(path: &str) {
             exit(1);
         }
     }
-    println!("{} calls of the sample, all as the Rust runs them", calls.len());
+    println!("{} calls of the sample, all as the Rust runs them; {}", calls.len(), departing.text());
+    if !departing.is_whole() {
+        println!("a case was not met");
+        exit(1);
+    }
 }
 
 fn check_document() {
@@ -173,6 +188,16 @@ fn check_document() {
         exit(1);
     }
     println!("the documents' edges: all as the Rust has them");
+}
+
+fn check_orders() {
+    match document::orders() {
+        Ok(departing) => println!("every set of error flags on every chip: as the two orders have it; {}", departing.text()),
+        Err(difference) => {
+            println!("{difference}");
+            exit(1);
+        }
+    }
 }
 
 /// The number that stands for the assertion at which the Rust panicked.
@@ -240,7 +265,7 @@ fn main() {
     let arguments: Vec<&str> = arguments.iter().map(String::as_str).collect();
     let number = |text: &str| text.parse::<u64>().unwrap_or_else(|_| usage());
     match arguments[..] {
-        ["bench"] => print!("{}", bench::run(&input())),
+        ["bench"] => print!("{}", bench::run(&input(), Order::Port)),
         ["lines"] => lines(),
         ["calls", seed, count] => calls(number(seed), number(count), &ENTRIES, &[0, 1, 2, 3]),
         ["calls", seed, count, entry] => calls(number(seed), number(count), &[named(entry)], &[0, 1, 2, 3]),
@@ -252,6 +277,7 @@ fn main() {
         ["bench-compare", directory] => bench_compare(directory),
         ["bench-cases", directory, seed, count] => bench_cases(directory, number(seed), number(count)),
         ["document"] => check_document(),
+        ["orders"] => check_orders(),
         ["panics", seed, count] => panics(number(seed), number(count)),
         ["reserved", seed, count] => reserved(number(seed), number(count)),
         ["check", path] => check_sample(path),
@@ -264,6 +290,6 @@ fn named(entry: &str) -> Entry {
 }
 
 fn usage() -> ! {
-    println!("oracle bench | lines | calls SEED COUNT [ENTRY [CHIP]] | sample FILE SEED TRIES | check FILE | document | panics SEED COUNT | reserved SEED COUNT");
+    println!("oracle bench | lines | calls SEED COUNT [ENTRY [CHIP]] | sample FILE SEED TRIES | bench-cases DIRECTORY SEED COUNT | bench-compare DIRECTORY | check FILE | document | orders | panics SEED COUNT | reserved SEED COUNT");
     exit(2)
 }

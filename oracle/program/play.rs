@@ -1,9 +1,10 @@
-//! Plays a call to the C library with the Rust's answers, and compares everything that can be seen.
+//! Plays a call to the C library with the Rust's answers, and compares everything that can be seen; on `ch32v4` also with the
+//! Rust in the port's order.
 
 use oracle::ends;
-use oracle::flags;
+use oracle::flags::{self, Order};
 use oracle::random::Random;
-use oracle::rust::{end_number, Outcome};
+use oracle::rust::{self, end_number, Outcome};
 use oracle::second;
 use oracle::text::number_text;
 use record::{kind, Call, Entry, ENTRIES, WRITE};
@@ -56,6 +57,8 @@ pub struct Player {
     read: Lent,
     /// Steps offered that had to be refused.
     pub refused_steps: u64,
+    /// Calls run on the Rust in the port's order too.
+    pub reordered_calls: u64,
 }
 
 fn check(holds: bool, text: impl FnOnce() -> String) -> Result<(), String> {
@@ -86,14 +89,15 @@ impl Player {
         if outcome.is_refused() {
             let end = outcome.end.unwrap_or(0) as u64;
             check(first == end, || differs("begin", end, first))?;
-            return self.check_kept("a refused begin");
+            self.check_kept("a refused begin")?;
+            return self.check_reordered(call, outcome, first);
         }
         let last = self.play_accesses(call, outcome, random, first)?;
         if let Some(end) = outcome.end {
             let closing = second::closing(call, &outcome.record, outcome.end);
             let is_kept = closing.is_none_or(|closing| closing.is_of_the_rust(call.written.len(), end));
             check(is_kept, || "the Rust's count is not of the bytes that were sent".into())?;
-            check(flags::are_of_the_rust(call, &outcome.record, end), || {
+            check(flags::decide(call, Order::Rust, &outcome.record, end), || {
                 format!("the flags {:04x} do not decide the Rust's end", outcome.flags)
             })?;
             let (second, flags) = (last >> 32 & 0xffff, last >> 48);
@@ -103,14 +107,42 @@ impl Player {
             check(flags == outcome.flags as u64, || {
                 format!("the flags: {:04x} by the words that the Rust was fed, the C library {flags:04x}", outcome.flags)
             })?;
-            let last = ends::of_call(call, last);
-            check(last == end as u64, || differs("the end", end as u64, last))?;
+            if !flags::departs(call, outcome.flags) {
+                check(last as u32 == end, || differs("the end", end as u64, last))?;
+            }
+            let as_the_rust = ends::of_call(call, last);
+            check(as_the_rust == end as u64, || differs("the end as the Rust's", end as u64, as_the_rust))?;
             self.check_critical(0, || "the end".into())?;
             for _ in 0..2 {
                 self.refused_step(call.entry, "a step after the end", random)?;
             }
         }
-        self.check_bytes(call, outcome)
+        self.check_bytes(call, outcome)?;
+        self.check_reordered(call, outcome, last)?;
+        let is_decided = outcome.end.is_none() || flags::decide(call, Order::Port, &outcome.record, last as u32);
+        check(is_decided, || format!("the flags {:04x} do not decide the C library's end", outcome.flags))
+    }
+
+    /// On `ch32v4`: the Rust in the port's order, fed the same answers, makes the same record, and its end is the library's
+    /// own.
+    fn check_reordered(&mut self, call: &Call, outcome: &Outcome, last: u64) -> Result<(), String> {
+        if !matches!(call.chip, 2 | 3) {
+            return Ok(());
+        }
+        self.reordered_calls += 1;
+        let again = rust::run_in(Order::Port, call, &outcome.record.answers);
+        let (ours, rusts) = (&again.record, &outcome.record);
+        // A stored call has no note of where interrupts are held off.
+        let same_holds = ours.held == rusts.held || rusts.held.is_empty();
+        let same_record = same_holds && (&ours.accesses, &ours.answers, ours.open) == (&rusts.accesses, &rusts.answers, rusts.open);
+        check(same_record, || "the reordered Rust: another record".into())?;
+        let same_rest = (&again.read, again.second, again.flags) == (&outcome.read, outcome.second, outcome.flags);
+        check(same_rest && again.panic.is_none(), || "the reordered Rust: other bytes, count or flags".into())?;
+        let (end, number) = (again.end.map(u64::from), outcome.end.map(|_| last & 0xffff_ffff));
+        check(end == number, || {
+            let shown = end.map_or("open".into(), number_text);
+            format!("the reordered Rust: {shown}, the C library {}", number_text(last))
+        })
     }
 
     /// Feeds the answers and compares each access. Hands back the number that follows the last of them.

@@ -1,15 +1,23 @@
-//! Runs a call on the carried Rust.
+//! Runs a call on the carried Rust, or on the copy of it that has the port's order of errors.
 
 use std::any::Any;
 use std::panic::{catch_unwind, AssertUnwindSafe};
 use std::sync::OnceLock;
 
-use record::{Answers, Call, Entry, OutOfAnswers, Record};
+use record::{Answers, Call, Entry, Given, OutOfAnswers, Record};
 
+use crate::flags::Order;
 use crate::{causes, flags, second};
 
-/// The carried Rust, built for each chip.
-pub type Chips = [fn(&Call, &mut [u8]) -> (u8, u16); 4];
+/// Calls one build of the Rust.
+type Build = fn(&Call, &mut [u8]) -> (u8, u16);
+
+/// The carried Rust, built for each chip, and the copy in the port's order, built for chips 2 and 3. On the others that order is
+/// the Rust's.
+pub struct Chips {
+    pub carried: [Build; 4],
+    pub reordered: [Build; 2],
+}
 
 static CHIPS: OnceLock<Chips> = OnceLock::new();
 
@@ -57,16 +65,23 @@ fn message(panic: Box<dyn Any + Send>) -> String {
     }
 }
 
-/// Calls the Rust and nothing else: the record is the caller's to start and finish.
-pub fn run_bare(call: &Call, read: &mut [u8]) -> (u8, u16) {
-    CHIPS.get().expect("use_chips comes first")[call.chip as usize](call, read)
+fn build(call: &Call, order: Order) -> Build {
+    let (chips, chip) = (CHIPS.get().expect("use_chips comes first"), call.chip as usize);
+    match order {
+        Order::Port if chip > 1 => chips.reordered[chip - 2],
+        _ => chips.carried[chip],
+    }
 }
 
-/// Runs a call on the Rust, without a look at the added causes.
-pub fn run_rust(call: &Call, record: Record, answers: Box<dyn Answers>, with_places: bool) -> Outcome {
+/// Calls the Rust and nothing else: the record is the caller's to start and finish.
+pub fn run_bare(call: &Call, read: &mut [u8]) -> (u8, u16) {
+    build(call, Order::Rust)(call, read)
+}
+
+fn run_build(build: Build, call: &Call, record: Record, answers: Box<dyn Answers>, with_places: bool) -> Outcome {
     let mut read = call.read.clone();
     record::start(record, answers, with_places);
-    let result = catch_unwind(AssertUnwindSafe(|| run_bare(call, &mut read)));
+    let result = catch_unwind(AssertUnwindSafe(|| build(call, &mut read)));
     let (record, _) = record::finish();
     let (end, panic) = match result {
         Ok((end, value)) => (Some(end_number(end, value)), None),
@@ -81,6 +96,11 @@ pub fn run_rust(call: &Call, record: Record, answers: Box<dyn Answers>, with_pla
         read,
         panic,
     }
+}
+
+/// Runs a call on the Rust, without a look at the added causes.
+pub fn run_rust(call: &Call, record: Record, answers: Box<dyn Answers>, with_places: bool) -> Outcome {
+    run_build(build(call, Order::Rust), call, record, answers, with_places)
 }
 
 /// A list whose sums are not the lent lengths comes here only if the Rust refuses it for another cause. The Rust's
@@ -98,7 +118,20 @@ fn with_bytes_for_its_list(call: &Call) -> Option<Call> {
 }
 
 /// Runs a call: the added causes first, then the Rust. `record` is reused.
-pub fn run(call: &Call, mut record: Record, answers: Box<dyn Answers>, with_places: bool) -> Outcome {
+pub fn run(call: &Call, record: Record, answers: Box<dyn Answers>, with_places: bool) -> Outcome {
+    run_with(Order::Rust, call, record, answers, with_places)
+}
+
+/// Runs a call with given answers on the Rust in an order.
+pub fn run_in(order: Order, call: &Call, answers: &[u16]) -> Outcome {
+    let given = Given {
+        answers: answers.to_vec(),
+        used: 0,
+    };
+    run_with(order, call, Record::default(), Box::new(given), false)
+}
+
+fn run_with(order: Order, call: &Call, mut record: Record, answers: Box<dyn Answers>, with_places: bool) -> Outcome {
     if let Some(cause) = causes::added(call) {
         record::start(record, answers, false);
         record = record::finish().0;
@@ -112,9 +145,9 @@ pub fn run(call: &Call, mut record: Record, answers: Box<dyn Answers>, with_plac
         };
     }
     match with_bytes_for_its_list(call) {
-        None => run_rust(call, record, answers, with_places),
+        None => run_build(build(call, order), call, record, answers, with_places),
         Some(lent) => {
-            let mut outcome = run_rust(&lent, record, answers, with_places);
+            let mut outcome = run_build(build(call, order), &lent, record, answers, with_places);
             assert!(outcome.is_refused(), "a list that does not fit its buffers was run");
             outcome.read = call.read.clone();
             outcome

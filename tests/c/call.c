@@ -163,6 +163,23 @@ int well_formed(enum entry entry, uint64_t next)
 
 uint64_t ending(unsigned number) { return (uint64_t)number << 8; }
 
+unsigned error_of(unsigned flags, unsigned chip, int master)
+{
+    if (flags & CH32_I2C_FLAG_ARLO)
+        return CH32_I2C_ARBITRATION;
+    if (flags & CH32_I2C_FLAG_BERR && chip & CH32_I2C_CHIP_CH32V4)
+        return CH32_I2C_BUS;
+    if (flags & CH32_I2C_FLAG_TIMEOUT && chip & CH32_I2C_CHIP_V3)
+        return CH32_I2C_TIMEOUT;
+    if (flags & CH32_I2C_FLAG_PECERR)
+        return CH32_I2C_CRC;
+    if (flags & CH32_I2C_FLAG_OVR)
+        return CH32_I2C_OVERRUN;
+    if (flags & CH32_I2C_FLAG_AF && master)
+        return CH32_I2C_NACK;
+    return 0;
+}
+
 /* ---- lines of accesses ---- */
 
 static const char *const names[] = {"CTLR1", "CTLR2", "OADDR1", "OADDR2", "DATAR", "STAR1", "STAR2", "CKCFGR", "RTR"};

@@ -51,6 +51,9 @@ int well_formed(enum entry entry, uint64_t next);
 
 uint64_t ending(unsigned number);
 
+/* The end that these flags of a status word decide: with ch32v4 BERR comes directly behind ARLO. 0: none is an error on this chip. */
+unsigned error_of(unsigned flags, unsigned chip, int master);
+
 /* Counts a check; says what failed, the first few times. */
 int check(int holds, const char *format, ...);
 

@@ -1,5 +1,5 @@
-/* The flags of an error: those of the word that decided it, through every abort; none where no word decided. Then which flags a block may hold
- * beside which error, by its chip and as a master or a slave. */
+/* The flags of an error: those of the word that decided it, through every abort; none where no word decided. The order in which they decide, on
+ * every chip. Then which flags a block may hold beside which error, by its chip and as a master or a slave. */
 #include "call.h"
 
 #define SB 0x0001u
@@ -110,29 +110,77 @@ static void lost_start(void)
         }
 }
 
+/* ---- the order ---- */
+
+enum {
+    BERR = CH32_I2C_FLAG_BERR,
+    ARLO = CH32_I2C_FLAG_ARLO,
+    AF = CH32_I2C_FLAG_AF,
+    OVR = CH32_I2C_FLAG_OVR,
+    PECERR = CH32_I2C_FLAG_PECERR,
+    TIMEOUT = CH32_I2C_FLAG_TIMEOUT
+};
+
+/* Document 02's orders, chip by chip, with the errors' numbers; AF is none in a slave. */
+static const struct {
+    unsigned flag, error;
+} orders[4][6] = {
+    {{ARLO, 2}, {PECERR, 5}, {OVR, 6}, {AF, 3}, {0, 0}, {0, 0}},
+    {{ARLO, 2}, {TIMEOUT, 4}, {PECERR, 5}, {OVR, 6}, {AF, 3}, {0, 0}},
+    {{ARLO, 2}, {BERR, 1}, {PECERR, 5}, {OVR, 6}, {AF, 3}, {0, 0}},
+    {{ARLO, 2}, {BERR, 1}, {TIMEOUT, 4}, {PECERR, 5}, {OVR, 6}, {AF, 3}},
+};
+
+/* The first of its chip's order that is set, or 0. */
+static unsigned first_of(unsigned flags, unsigned chip, int master)
+{
+    unsigned place;
+    for (place = 0; place < 6; place++)
+        if (flags & orders[chip][place].flag && (master || orders[chip][place].flag != AF))
+            return orders[chip][place].error;
+    return 0;
+}
+
+/* Every set of the six flags. */
+static void every_set(enum entry entry, unsigned chip)
+{
+    unsigned set;
+    for (set = 0; set < 64; set++) {
+        const unsigned flags = (set & 0x1f) << 8 | (set & 0x20) << 9, error = first_of(flags, chip, entry == WRITE);
+        uint64_t next, wanted = ending(error) | (uint64_t)flags << 48;
+        if (entry == RESPOND_TO_READ && flags & CH32_I2C_FLAG_AF)
+            continue; /* AF ends a reply */
+        at_status(entry, chip);
+        next = step(&c, (uint16_t)flags);
+        if (flags)
+            next = step(&c, 0);
+        if (error)
+            next = ended(next);
+        else
+            wanted = CH32_I2C_KIND_CLOCK;
+        check(next == wanted, "%s, chip %u, %#x: got %#llx", entry_names[entry], chip, flags, (unsigned long long)next);
+        check(error == error_of(flags, chip, entry == WRITE), "%#x on chip %u in the order of all tests", flags, chip);
+    }
+}
+
+static void in_order(void)
+{
+    unsigned chip, i;
+    for (chip = 0; chip < 4; chip++)
+        for (i = 0; i < sizeof waiting / sizeof *waiting; i++)
+            every_set(waiting[i], chip);
+}
+
 /* ---- blocks ---- */
 
 enum { error_byte = 7, flags_byte = 30 };
-
-/* Document 01's order. 0: none of these flags is an error. */
-static unsigned decided(unsigned flags, unsigned chip, int master)
-{
-    flags &= ~harmless(chip, master);
-    return flags & CH32_I2C_FLAG_ARLO      ? CH32_I2C_ARBITRATION
-           : flags & CH32_I2C_FLAG_TIMEOUT ? CH32_I2C_TIMEOUT
-           : flags & CH32_I2C_FLAG_PECERR  ? CH32_I2C_CRC
-           : flags & CH32_I2C_FLAG_OVR     ? CH32_I2C_OVERRUN
-           : flags & CH32_I2C_FLAG_AF      ? CH32_I2C_NACK
-           : flags & CH32_I2C_FLAG_BERR    ? CH32_I2C_BUS
-                                           : 0;
-}
 
 /* Whether a call can have met this error with these flags. */
 static int fits(unsigned error, unsigned flags, unsigned chip, int master)
 {
     if (flags == 0)
         return error == CH32_I2C_TIMEOUT || (master && error == CH32_I2C_ARBITRATION);
-    return (flags & ~CH32_I2C_FLAGS) == 0 && error != 0 && error == decided(flags, chip, master);
+    return (flags & ~CH32_I2C_FLAGS) == 0 && error != 0 && error == error_of(flags, chip, master);
 }
 
 static void try_flags(unsigned error, unsigned flags)
@@ -198,6 +246,7 @@ void test_flags(void)
 {
     words();
     lost_start();
+    in_order();
     blocks();
     open_ends();
 }

@@ -130,7 +130,12 @@ static void writes(void)
            "r,CTLR1,0001\nr,CTLR1,0001\nr,STAR1,0001\nr,STAR1,4101\nw,STAR1,beff\nr,CTLR1,0001\nr,STAR2,0003\nw,DATAR,0042\n"
            "r,STAR1,4102\nw,STAR1,beff\nr,STAR2,0003\n" BYTE("0031") "r,STAR1,0600\nw,STAR1,f9ff\n" ABORT_STOP "end,2,0600");
     plain_call(&c, WRITE);
-    follow(&c, "write, TIMEOUT before BERR", WRITE_TO("0042") "r,STAR1,4180\nw,STAR1,beff\n" ABORT_STOP "end,4,4100");
+    follow(&c, "write, BERR before TIMEOUT", WRITE_TO("0042") "r,STAR1,4180\nw,STAR1,beff\n" ABORT_STOP "end,1,4100");
+    plain_call(&c, WRITE);
+    c.chip = CH32_I2C_CHIP_V3;
+    follow(&c, "write, TIMEOUT, BERR does not decide on this chip", WRITE_TO("0042") "r,STAR1,4180\nw,STAR1,beff\n" ABORT_STOP "end,4,4100");
+    plain_call(&c, WRITE);
+    follow(&c, "write, ARLO before BERR", WRITE_TO("0042") "r,STAR1,0780\nw,STAR1,f8ff\n" ABORT_STOP "end,2,0700");
     plain_call(&c, WRITE);
     follow(&c, "write, BERR", WRITE_TO("0042") "r,STAR1,0180\nw,STAR1,feff\n" ABORT_STOP "end,1,0100");
     plain_call(&c, WRITE);
@@ -200,6 +205,29 @@ static void reads(void)
               "\x11\x22", 2);
 }
 
+/* A broken line, BERR and AF in one word: a bus error with ch32v4, else a Nack. */
+#define BROKEN "r,STAR1,0500\nw,STAR1,faff\n" ABORT_STOP
+#define BROKEN_BEHIND(lines) (chip & CH32_I2C_CHIP_CH32V4 ? lines BROKEN "end,1,0500" : lines BROKEN "end,3,0500")
+
+static void broken_line(void)
+{
+    unsigned chip;
+    for (chip = 0; chip < 4; chip++) {
+        plain_call(&c, WRITE);
+        c.chip = (uint8_t)chip;
+        follow(&c, "a broken line at a write's address", BROKEN_BEHIND(START "w,DATAR,0042\n"));
+        plain_call(&c, WRITE);
+        c.chip = (uint8_t)chip;
+        follow(&c, "a broken line before a byte is sent", BROKEN_BEHIND(WRITE_TO("0042")));
+        plain_call(&c, WRITE);
+        c.chip = (uint8_t)chip;
+        follow(&c, "a broken line behind a byte sent", BROKEN_BEHIND(WRITE_TO("0042") "r,STAR1,0080\nw,DATAR,0031\n"));
+        plain_call(&c, READ);
+        c.chip = (uint8_t)chip;
+        follow(&c, "a broken line behind a byte read", BROKEN_BEHIND(POS_OFF READ_FROM("0043") "r,STAR2,0003\n" RECEIVE("0011")));
+    }
+}
+
 static void joined(void)
 {
     plain_call(&c, WRITE_READ);
@@ -267,6 +295,12 @@ static void slaves(void)
     follow(&c, "listen, stale flags, late",
            "r,STAR1,0010\nr,CTLR1,0401\nw,CTLR1,0401\nr,STAR1,bfff\nw,STAR1,e0ff\nr,CTLR2,0408\nw,CTLR2,0008\nr,CTLR1,0001\n"
            "w,CTLR1,0401\nr,STAR1,0400\nw,STAR1,fbff\nc,clock,0001\n" SLAVE_ABORT "end,4");
+    plain_call(&c, LISTEN);
+    follow(&c, "listen, BERR before OVR", FLUSH "r,STAR1,0900\nw,STAR1,f6ff\nr,CTLR2,0008\nw,CTLR2,0008\nr,STAR2,0003\nend,1,0900");
+    plain_call(&c, LISTEN);
+    c.chip = CH32_I2C_CHIP_V3;
+    follow(&c, "listen, OVR, BERR does not decide on this chip",
+           FLUSH "r,STAR1,0900\nw,STAR1,f6ff\nr,CTLR2,0008\nw,CTLR2,0008\nr,STAR2,0003\nend,6,0900");
     plain_call(&c, LISTEN);
     follow(&c, "listen, OVR", FLUSH "r,STAR1,0c00\nw,STAR1,f3ff\nr,CTLR2,0008\nw,CTLR2,0008\nr,STAR2,0003\nend,6,0c00");
 
@@ -378,28 +412,10 @@ static void noise(void)
 
 /* ---- errors: every set of flags on every chip ---- */
 
-/* Document 01: the first of these that is set. 0: none that decides on this chip. */
-static unsigned error_of(unsigned flags, unsigned chip, int slave)
-{
-    if (flags & 0x0200)
-        return CH32_I2C_ARBITRATION;
-    if (flags & 0x4000 && chip & CH32_I2C_CHIP_V3)
-        return CH32_I2C_TIMEOUT;
-    if (flags & 0x1000)
-        return CH32_I2C_CRC;
-    if (flags & 0x0800)
-        return CH32_I2C_OVERRUN;
-    if (flags & 0x0400 && !slave)
-        return CH32_I2C_NACK;
-    if (flags & 0x0100 && chip & CH32_I2C_CHIP_CH32V4)
-        return CH32_I2C_BUS;
-    return 0;
-}
-
 /* The call waits at STAR1; it is answered with these flags, and with others that do not matter. Then all is answered with 0, in which case no abort does more than it must. */
 static void errors_at(uint64_t next, unsigned flags, unsigned others, int slave)
 {
-    unsigned steps = 0, end = error_of(flags, c.chip, slave);
+    unsigned steps = 0, end = error_of(flags, c.chip, !slave);
     check(next == (CH32_I2C_KIND_READ | CH32_I2C_STAR1 << 8), "%s: waits at STAR1", entry_names[c.entry]);
     next = step(&c, (uint16_t)(flags | others));
     if (flags & 0x5f00) {
@@ -451,6 +467,7 @@ void test_sequences(void)
     init();
     writes();
     reads();
+    broken_line();
     joined();
     init_slaves();
     slaves();

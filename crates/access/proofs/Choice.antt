@@ -32,6 +32,14 @@ pub other-true : (a : Bool) {b : Bool} → b ≡ true → a || b ≡ true
 other-true true p = refl
 other-true false p = p
 
+pub first-false : (a b : Bool) → a || b ≡ false → a ≡ false
+first-false false b e = refl
+first-false true b e = e
+
+pub second-false : (a b : Bool) → a || b ≡ false → b ≡ false
+second-false false b e = e
+second-false true b e = absurd (true≢false e)
+
 pub same-true : {a b : Bool} → b ≡ a → Bool·beq a b ≡ true
 same-true {a} e = go a e
   where

@@ -1,37 +1,40 @@
 -- The three demands hold.
 -- Assumes nothing.
 use mathlib.Core.Path.{_≡_, refl, ap, sym, subst, _∙_}
-use mathlib.Core.Bool.{Bool, true, false, cond, not, _||_, true≢false}
+use mathlib.Core.Bool.{Bool, true, false, cond, _||_, true≢false}
 use mathlib.Core.List.{List, [], _∷_, _++_, map}
 use mathlib.Core.Option.{Option, none, some}
 use Prim.Native.Nat.{ℕ, suc, _+_, _<_, _≤_}
 use native.Mathlib.Omega.{arith}
-use lib.Dec.{eqb, ltb}
+use lib.Dec.{ltb}
 use lib.ListN.{length, take, length-map}
 use lib.Seq.{take-all}
 use borrow.Author.Tests.{ltb-false, le-ltb}
 use Rattle.access.specs.declared.ending.Ending.{Ending}
 use Rattle.access.specs.declared.ending.Error.{Error}
-use Rattle.access.specs.declared.ending.Error.the-variants.{InvalidState, InvalidArgument, BufferTooLong}
+use Rattle.access.specs.declared.ending.Error.the-variants.{InvalidState, BufferTooLong}
 use Rattle.access.specs.declared.ending.Ending.the-variants.{Failed}
 use Rattle.access.specs.Endings.{done, returned, returnedBoth, failed}
 use Rattle.access.specs.Program.{Program, finish}
 use Rattle.access.specs.Record.{Shown, noMore, shownOf, DifferInPayload, Same, SameStruck, EndsAlike, struck}
 use Rattle.access.specs.Machine.{shownFrom}
+use Rattle.access.proofs.Choice.{second-false}
 use Rattle.access.proofs.NumberLaws.{number-injective}
-use Rattle.alike.specs.Like.{forgetEnd, forgetting}
-use Rattle.errors.proofs.CheckLaws.{others-stay, second-forgotten, flags-forgotten}
+use Rattle.alike.specs.Like.{forgetEnd, forgetting, allAllowed}
+use Rattle.alike.proofs.LikeLaws.{nothing-forgotten}
+use Rattle.errors.specs.AsTheRust.{addedForgotten}
+use Rattle.errors.specs.Check.{withoutBerr}
+use Rattle.errors.proofs.CheckLaws.{others-stay, second-forgotten, flags-decide}
+use Rattle.errors.proofs.DepartLaws.{class-is-the-rusts}
 use Rattle.operations.specs.Operations.{operationsOf}
 use Rattle.operations.proofs.SumLaws.{written-runs}
-use Rattle.block.specs.Bytes32.{blockSize}
 use Rattle.timing.specs.declared.settings.Timed.{Timed}
 use Rattle.timing.specs.declared.settings.Timed.the-variants as timed
 use Rattle.timing.specs.Rust.{timing}
-use Rattle.timing.specs.Machine as initMachine
 use Rattle.timing.proofs.InitAgrees.{init-is-the-rust}
 use Rattle.master.specs.declared.call.Call as master
 use Rattle.master.specs.declared.call.Kind.the-variants as kind
-use Rattle.master.specs.Calls.{Lent, lentWith, cut, refuse, refusal, InForm, rustWith, oursWith, callShown, seenAfter, spansBy, spansOf}
+use Rattle.master.specs.Calls.{Lent, lentWith, cut, refusal, InForm, rustWith, oursWith, callShown, seenAfter, spansBy, spansOf}
 use Rattle.master.specs.Claims.{Comparable}
 use Rattle.master.specs.Joined.{Joined, JW, JR, joined}
 use Rattle.master.specs.Rust.{theRust}
@@ -42,24 +45,23 @@ use Rattle.master.proofs.Joining.{runs-join}
 use Rattle.master.proofs.OursIsTheRust as masterIs
 use Rattle.master.proofs.Secret.{master-is-secret}
 use Rattle.slave.specs.declared.config.SlaveConfig.{SlaveConfig}
-use Rattle.slave.specs.declared.state.Kind as slave
 use Rattle.slave.specs.declared.state.Kind.the-variants.{Listen, RespondToWrite, RespondToRead}
 use Rattle.slave.specs.Init as initSlaveMachine
-use Rattle.slave.specs.Calls.{sizeOf, sizeRefusal, initShown, rustInit, slaveShown}
+use Rattle.slave.specs.Calls.{sizeRefusal, initShown, rustInit, slaveShown}
 use Rattle.slave.specs.Calls as slaveCalls
 use Rattle.slave.proofs.CallAgrees.{slave-is-ours}
 use Rattle.slave.proofs.OursIsTheRust as slaveIs
 use Rattle.slave.proofs.Secret.{slave-is-secret}
 use Rattle.slave_driver.specs.Lent as slaveLent
-use Rattle.images.specs.Numbers.{chipOf, transactionEntry, writeReadEntry, writeEntry, readEntry, listenEntry, respondToWriteEntry, respondToReadEntry}
+use Rattle.images.specs.Numbers.{chipOf, transactionEntry, writeReadEntry, writeEntry, readEntry}
 use Rattle.images.specs.MasterImage.{frameOptionsOf}
 use Rattle.ch32_i2c.specs.Left.{Left, refusedWith}
 use Rattle.ch32_i2c.specs.Fed.{lefts, handedOut, stored, Makes, Begins, Seen, seenOf, recordIn, StruckSeen, struckBy, asSeen, struckIn, DifferAtPayload, payloadIn}
 use Rattle.ch32_i2c.specs.Manual.{Keeps}
 use Rattle.ch32_i2c.specs.Init as cInit
-use Rattle.ch32_i2c.specs.Transfer.{callOf, masterBegin}
+use Rattle.ch32_i2c.specs.Transfer.{callOf}
 use Rattle.ch32_i2c.specs.InitSlave as cInitSlave
-use Rattle.ch32_i2c.specs.Demands.{Call, init, transaction, writeRead, write, read, initSlave, listen, respondToWrite, respondToRead, entryOf, Reads, unknown, ownRefusal, refusalOf, Accepted, timedRefusal, rust, ours, endAsTheRust, timedShown, theRusts, NoneAdded, canEnd, IsMet, takes, nothingToDo, Over, Demand1, Demand2, Demand3, SeenAlike, SameRuns, transactions, writeReads, writes, reads, bytesOfRun, writtenRuns, oursAfter, recordAfter, endAfter, struckAfter, Records, RecordsRust, runsShown, wordsOf, OfDemand2, RepliesEnd, SeenSame}
+use Rattle.ch32_i2c.specs.Demands.{Call, init, transaction, writeRead, write, read, initSlave, listen, respondToWrite, respondToRead, entryOf, Reads, unknown, ownRefusal, refusalOf, Accepted, rust, ours, checksOf, checkDeparts, endAsTheRust, timedShown, theRusts, NoneAdded, canEnd, IsMet, takes, nothingToDo, Over, Demand1, Demand2, Demand3, SeenAlike, SameRuns, transactions, writeReads, writes, reads, bytesOfRun, writtenRuns, oursAfter, recordAfter, endAfter, struckAfter, Records, RecordsBy, RecordsRust, IsTheRust, BerrUnread, hasBerr, EndsMoved, runsShown, wordsOf, OfDemand2, RepliesEnd, SeenSame}
 use Rattle.ch32_i2c.proofs.Recorded.{record-is, end-is, struck-same}
 use Rattle.ch32_i2c.proofs.PayloadLaws.{differ-same, Answered, answered, answers-same}
 use Rattle.ch32_i2c.proofs.CallsRun.{parts, Runs, begin-left, response-left, transfer-runs, write-runs, response-runs, unread-runs, init-runs, init-slave-runs, config-unreserved, shownTimed, small}
@@ -67,8 +69,10 @@ use Rattle.ch32_i2c.proofs.SlaveEnds.{reply-ends, reply-end, listen-end
 use Rattle.ch32_i2c.proofs.Begins.{transaction-starts, write-read-starts, frame-starts, read-starts, transfer-begins, response-begins, init-begins, init-slave-begins}
 use Rattle.ch32_i2c.proofs.Goes.{Is15, init-goes, master-goes, init-slave-goes, slave-goes}
 use Rattle.ch32_i2c.proofs.RustRefuses.{master-refused, master-unadded, timing-added, config-faulty, config-unadded}
+use Rattle.ch32_i2c.proofs.Moved.{unmoved-end, moved-end, berr-undecided}
+use Rattle.ch32_i2c.proofs.Unread.{none-has-berr}
 use Rattle.ch32_i2c.proofs.RunsRecord.{transaction-runs}
-use Rattle.ch32_i2c.proofs.Words.{second-false, address-passed, Obey, struck-keeps, transfer-obeys, init-slave-obeys, init-obeys, obeys-free}
+use Rattle.ch32_i2c.proofs.Words.{address-passed, Obey, struck-keeps, transfer-obeys, init-slave-obeys, init-obeys, obeys-free}
 use Rattle.ch32_i2c.proofs.Refuses.{transfer-refuses, response-refuses, init-refuses, init-slave-refuses}
 use Rattle.ch32_i2c.proofs.Stops.{init-stops, master-stops, init-slave-stops, slave-stops}
 
@@ -143,13 +147,6 @@ shown-ours (respondToWrite chip) room q turns answers h = slave-is-ours .same (c
 shown-ours (respondToRead chip reply) room q turns answers h = slave-is-ours .same (chipOf chip) RespondToRead (slaveLent.lentWith reply 0) q turns answers h
 
 -- ---- and our text is the Rust's
-
-nothing-forgotten : (r : Shown) → r ≡ forgetting (λ e. e) r
-nothing-forgotten r = ap (λ (e : Option Ending). record { events = r .events; arrivals = r .arrivals; end = e }) (kept (r .end))
-  where
-    kept : (e : Option Ending) → e ≡ forgetEnd (λ e. e) e
-    kept none = refl
-    kept (some e) = refl
 
 as-the-rust : (c : Call) (room turns : ℕ) (answers : List ℕ) → rust turns c room answers ≡ forgetting (endAsTheRust c) (ours turns c room answers)
 as-the-rust (init chip input frequency duty) room turns answers = nothing-forgotten (timedShown chip turns (timing (chipOf chip) input frequency (cInit.dutyOf duty)) answers)
@@ -410,15 +407,62 @@ makes : (c : Call) (block bytes : List ℕ) → Reads c bytes → Accepted c blo
     → Makes (entryOf c) block bytes answers (ours turns c (length bytes) answers)
 makes c block bytes k a turns answers h = subst (λ (s : Shown). Makes (entryOf c) block bytes answers s) (accepted-ours c block bytes a turns answers h) (runs c block bytes k a .makes answers)
 
-rusts : (c : Call) (block bytes : List ℕ) → Reads c bytes → Accepted c block bytes → (turns : ℕ) (answers : List ℕ) → length answers < turns → RecordsRust c block bytes answers (rust turns c (length bytes) answers)
-rusts c block bytes k a turns answers h =
+-- what is seen is a text's that is ours with something of its end forgotten
+recorded-by : (forget : Ending → Ending) (c : Call) (block bytes : List ℕ) → Reads c bytes → Accepted c block bytes → (turns : ℕ) (answers : List ℕ) → length answers < turns
+    → (s : Shown) → s ≡ forgetting forget (ours turns c (length bytes) answers) → RecordsBy forget c block bytes answers s
+recorded-by forget c block bytes k a turns answers h s q =
     let r = seen-ours c block bytes k a turns answers h in
-    let e = sym (as-the-rust c (length bytes) turns answers) in
     record {
-      record-is = r .record-is ∙ ap recordIn e;
-      end-is = ap (forgetEnd (endAsTheRust c)) (r .end-is) ∙ ap (λ (s : Shown). s .end) e;
-      read-is = r .read-is ∙ ap (λ (s : Shown). stored (s .arrivals) bytes) e;
+      record-is = r .record-is ∙ ap recordIn (sym q);
+      end-is = ap (forgetEnd forget) (r .end-is) ∙ ap (λ (s : Shown). s .end) (sym q);
+      read-is = r .read-is ∙ ap (λ (s : Shown). stored (s .arrivals) bytes) (sym q);
     }
+
+rusts : (c : Call) (block bytes : List ℕ) → Reads c bytes → Accepted c block bytes → (turns : ℕ) (answers : List ℕ) → length answers < turns → RecordsRust c block bytes answers (rust turns c (length bytes) answers)
+rusts c block bytes k a turns answers h = recorded-by (endAsTheRust c) c block bytes k a turns answers h (rust turns c (length bytes) answers) (as-the-rust c (length bytes) turns answers)
+
+-- ---- where it is the Rust unchanged
+
+unmoved : (c : Call) (block bytes : List ℕ) → Reads c bytes → Accepted c block bytes → (turns : ℕ) (answers : List ℕ) → length answers < turns
+    → checkDeparts (checksOf c) (endAfter c block bytes answers) ≡ false → IsTheRust c block bytes answers (rust turns c (length bytes) answers)
+unmoved c block bytes k a turns answers h d =
+    let r = rusts c block bytes k a turns answers h in
+    record { record-is = r .record-is; end-is = sym (unmoved-end c (endAfter c block bytes answers) (demand-1 .ends c block bytes k a answers) d) ∙ r .end-is; read-is = r .read-is }
+
+moved : (c : Call) (block bytes : List ℕ) → Reads c bytes → Accepted c block bytes → (turns : ℕ) (answers : List ℕ) → length answers < turns
+    → checkDeparts (checksOf c) (endAfter c block bytes answers) ≡ true → EndsMoved (endAfter c block bytes answers) (rust turns c (length bytes) answers .end)
+moved c block bytes k a turns answers h d =
+    subst (EndsMoved (endAfter c block bytes answers)) (rusts c block bytes k a turns answers h .end-is) (moved-end c (endAfter c block bytes answers) (demand-1 .ends c block bytes k a answers) d)
+
+without-berr : (c : Call) (block bytes : List ℕ) → Reads c bytes → Accepted c block bytes → (turns : ℕ) (answers : List ℕ) → length answers < turns → BerrUnread turns c (length bytes) answers
+    → IsTheRust c block bytes answers (rust turns c (length bytes) answers)
+without-berr (init chip input frequency duty) block bytes k a turns answers h u = unmoved (init chip input frequency duty) block bytes k a turns answers h refl
+without-berr (transaction chip address list written) block bytes k a turns answers h u =
+    recorded-by addedForgotten (transaction chip address list written) block bytes k a turns answers h _ (masterIs.same-without-berr (callOf chip address kind.Transaction) (lentWith list written (length bytes)) turns answers u)
+without-berr (writeRead chip address written) block bytes k a turns answers h u =
+    recorded-by addedForgotten (writeRead chip address written) block bytes k a turns answers h _ (masterIs.same-without-berr (callOf chip address kind.WriteRead) (lentWith [] written (length bytes)) turns answers u)
+without-berr (write chip address option written) block bytes k a turns answers h u =
+    recorded-by addedForgotten (write chip address option written) block bytes k a turns answers h _ (masterIs.same-without-berr (callOf chip address (kind.Write (frameOptionsOf option))) (lentWith [] written 0) turns answers u)
+without-berr (read chip address option) block bytes k a turns answers h u =
+    recorded-by addedForgotten (read chip address option) block bytes k a turns answers h _ (masterIs.same-without-berr (callOf chip address (kind.Read (frameOptionsOf option))) (lentWith [] [] (length bytes)) turns answers u)
+without-berr (initSlave ten address has second general stretching) block bytes k a turns answers h u = unmoved (initSlave ten address has second general stretching) block bytes k a turns answers h refl
+without-berr (listen chip) block bytes k a turns answers h u =
+    recorded-by addedForgotten (listen chip) block bytes k a turns answers h _ (slaveIs.same-without-berr (chipOf chip) Listen (slaveLent.lentWith [] 0) turns answers u)
+without-berr (respondToWrite chip) block bytes k a turns answers h u =
+    recorded-by addedForgotten (respondToWrite chip) block bytes k a turns answers h _ (slaveIs.same-without-berr (chipOf chip) RespondToWrite (slaveLent.lentWith [] (length bytes)) turns answers u)
+without-berr (respondToRead chip reply) block bytes k a turns answers h u =
+    recorded-by addedForgotten (respondToRead chip reply) block bytes k a turns answers h _ (slaveIs.same-without-berr (chipOf chip) RespondToRead (slaveLent.lentWith reply 0) turns answers u)
+
+unread : (c : Call) (room turns : ℕ) (answers : List ℕ) → allAllowed withoutBerr (ours turns c room answers .events) ≡ true → BerrUnread turns c room answers
+unread (init chip input frequency duty) room turns answers q = refl
+unread (transaction chip address list written) room turns answers q = masterIs.unread-without-berr (callOf chip address kind.Transaction) (lentWith list written room) turns answers q
+unread (writeRead chip address written) room turns answers q = masterIs.unread-without-berr (callOf chip address kind.WriteRead) (lentWith [] written room) turns answers q
+unread (write chip address option written) room turns answers q = masterIs.unread-without-berr (callOf chip address (kind.Write (frameOptionsOf option))) (lentWith [] written 0) turns answers q
+unread (read chip address option) room turns answers q = masterIs.unread-without-berr (callOf chip address (kind.Read (frameOptionsOf option))) (lentWith [] [] room) turns answers q
+unread (initSlave ten address has second general stretching) room turns answers q = refl
+unread (listen chip) room turns answers q = slaveIs.unread-without-berr (chipOf chip) Listen (slaveLent.lentWith [] 0) turns answers q
+unread (respondToWrite chip) room turns answers q = slaveIs.unread-without-berr (chipOf chip) RespondToWrite (slaveLent.lentWith [] room) turns answers q
+unread (respondToRead chip reply) room turns answers q = slaveIs.unread-without-berr (chipOf chip) RespondToRead (slaveLent.lentWith reply 0) turns answers q
 
 -- runs with joined bytes
 ours-join : (chip address : ℕ) (list written : List ℕ) (room : ℕ) → refusal (callOf chip address kind.Transaction) (lentWith list written room) ≡ none → (turns : ℕ) (answers : List ℕ)
@@ -471,7 +515,16 @@ demand-2 =
       rusts = rusts;
       counts = slaveIs.counts-as-the-rust;
       second = second;
-      flags = flags-forgotten;
+      flags = flags-decide;
+      without-ch32v4 = λ c block bytes k a q turns answers h. unmoved c block bytes k a turns answers h (berr-undecided (checksOf c) (endAfter c block bytes answers) q);
+      without-berr = without-berr;
+      unread =
+          λ c block bytes k a turns answers h q.
+          unread c (length bytes) turns answers
+          (none-has-berr (ours turns c (length bytes) answers .events) (subst (λ (xs : List Seen). hasBerr xs ≡ false) (seen-ours c block bytes k a turns answers h .record-is) q));
+      unmoved = unmoved;
+      moved = moved;
+      classes = class-is-the-rusts;
       others = others;
       returns = returns;
       refused = rust-refused;

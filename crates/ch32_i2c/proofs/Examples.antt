@@ -3,7 +3,7 @@
 use mathlib.Core.Path.{_≡_, refl, ap, sym, subst, _∙_}
 use mathlib.Core.Bool.{true, false}
 use mathlib.Core.List.{List, [], _∷_, _++_}
-use mathlib.Core.Option.{none, some}
+use mathlib.Core.Option.{Option, none, some}
 use Prim.Native.Nat.{ℕ, suc}
 use native.Mathlib.Omega.{arith}
 use lib.ListN.{length, replicate}
@@ -11,19 +11,22 @@ use Rattle.registers.specs.Word.{hasBit, putBit, fieldOf, putField}
 use Rattle.registers.specs.Flags.{errorFlags, clearError}
 use Rattle.registers.specs.Addresses.{addressWord}
 use Rattle.access.specs.Program.{checkTimeout, late}
+use Rattle.access.specs.declared.ending.Ending.{Ending}
 use Rattle.access.specs.declared.ending.Ending.the-variants.{Failed}
-use Rattle.access.specs.declared.ending.Error.the-variants.{Arbitration, InvalidAddress, ReservedAddress}
+use Rattle.access.specs.declared.ending.Error.the-variants.{Bus, Arbitration, Nack, Overrun, InvalidAddress, ReservedAddress}
 use Rattle.access.specs.declared.next.Next.{Next}
 use Rattle.access.specs.declared.next.Next.the-variants as next
 use Rattle.access.specs.Numbers.{nextNumber}
 use Rattle.access.specs.Endings.{flagged, done, returned, returnedBoth, failed}
 use Rattle.access.specs.Record.{Shown, noMore, Same}
+use Rattle.alike.specs.Like.{forgetEnd}
 use Rattle.operations.specs.Operations.{operationsOf, shaped}
 use Rattle.operations.specs.Runs.{runsOf, runsFrom}
 use Rattle.operations.specs.Search.{faultFrom}
 use Rattle.errors.specs.Classes.{errorOf}
 use Rattle.errors.specs.Check.{check-errors}
-use Rattle.master.specs.Calls.{refusal, rustWith, oursWith}
+use Rattle.errors.specs.AsTheRust.{addedForgotten}
+use Rattle.master.specs.Calls.{refusal, rustWith, oursWith, untilWith}
 use Rattle.master.specs.Rust as rust
 use Rattle.master.specs.Ours as ours
 use Rattle.master.specs.Joined.{joined, joinW}
@@ -40,7 +43,7 @@ use Rattle.calls.specs.InitSlave.{initSlaveHeld}
 use Rattle.timing.specs.Rust.{timing}
 use Rattle.ch32_i2c.specs.InitSlave.{configOf}
 use Rattle.ch32_i2c.specs.Fed.{Seen, endIn, recordIn, DifferAtPayload, payloadIn}
-use Rattle.ch32_i2c.specs.Demands.{Call, transaction, write, listen, respondToWrite, respondToRead, Accepted, Over, Commanded, Replied, canEnd, IsMet, endAfter, SameRuns, transactions, RepliesEnd, SeenAlike, SeenSame}
+use Rattle.ch32_i2c.specs.Demands.{Call, transaction, write, listen, respondToWrite, respondToRead, Accepted, Over, Commanded, Replied, canEnd, IsMet, checksOf, checkDeparts, IsTheRust, BerrUnread, EndsMoved, endAfter, SameRuns, transactions, RepliesEnd, SeenAlike, SeenSame}
 use Rattle.ch32_i2c.specs.Demands as demands
 use Rattle.ch32_i2c.proofs.Demands.{demand-1, demand-2, demand-3}
 
@@ -164,6 +167,78 @@ disturbed-fits = subst (IsMet (canEnd disturbed)) disturbed-ends (demand-1 .ends
 -- in C: bits 48 to 63
 disturbed-number : nextNumber (next.End (Failed (flagged Arbitration 0x0a00))) ≡ 0x0a00_0000_0000_0200
 disturbed-number = refl
+
+-- ---- a byte of a write with both chip flags: AF alone, as the Rust; AF with BERR, where the two differ
+
+abbrev line : Call
+line = write 3 0x21 3 (7 ∷ [])
+
+abbrev after-word : ℕ → List ℕ
+after-word w = w ∷ 0 ∷ 0 ∷ 0 ∷ 0 ∷ 0 ∷ []
+
+line-accepted : Accepted line zeros []
+unfolding refusal shaped
+line-accepted = refl
+
+-- no error check reads BERR, so this is the Rust's call
+nacked-unread : BerrUnread 7 line 0 (after-word 0x0400)
+unfolding untilWith oursWith rust.validate-address rust.write-bytes rust.send-byte rust.wait-flag ours.check-and-clear-error-flags check-errors errorOf rust.abort-transfer rust.finish-transfer rust.generate-stop hasBit putBit fieldOf putField errorFlags clearError checkTimeout late
+nacked-unread = refl
+
+nacked-is-the-rust : IsTheRust line zeros [] (after-word 0x0400) (demands.rust 7 line 0 (after-word 0x0400))
+nacked-is-the-rust = demand-2 .without-berr line zeros [] refl line-accepted 7 (after-word 0x0400) (omega arith) nacked-unread
+
+nacked-ours : demands.ours 7 line 0 (after-word 0x0400) .end ≡ some (Failed (flagged Nack 0x0400))
+unfolding oursWith rust.validate-address rust.write-bytes rust.send-byte rust.wait-flag ours.check-and-clear-error-flags check-errors errorOf rust.abort-transfer rust.finish-transfer rust.generate-stop hasBit putBit fieldOf putField errorFlags clearError checkTimeout late
+nacked-ours = refl
+
+nacked-of-the-rust : demands.rust 7 line 0 (after-word 0x0400) .end ≡ some (failed Nack)
+nacked-of-the-rust =
+    sym (nacked-is-the-rust .end-is)
+    ∙ ap (forgetEnd addedForgotten) (demand-2 .records line zeros [] refl line-accepted 7 (after-word 0x0400) (omega arith) .end-is ∙ nacked-ours)
+
+-- a broken line raises both: ours is Bus, and the Rust's Nack
+broken-ours : demands.ours 7 line 0 (after-word 0x0500) .end ≡ some (Failed (flagged Bus 0x0500))
+unfolding oursWith rust.validate-address rust.write-bytes rust.send-byte rust.wait-flag ours.check-and-clear-error-flags check-errors errorOf rust.abort-transfer rust.finish-transfer rust.generate-stop hasBit putBit fieldOf putField errorFlags clearError checkTimeout late
+broken-ours = refl
+
+broken-ends : endAfter line zeros [] (after-word 0x0500) ≡ some (Failed (flagged Bus 0x0500))
+broken-ends = demand-2 .records line zeros [] refl line-accepted 7 (after-word 0x0500) (omega arith) .end-is ∙ broken-ours
+
+broken-of-the-rust : demands.rust 7 line 0 (after-word 0x0500) .end ≡ some (failed Nack)
+unfolding rustWith rust.validate-address rust.write-bytes rust.send-byte rust.wait-flag rust.check-and-clear-error-flags rust.abort-transfer rust.finish-transfer rust.generate-stop hasBit putBit fieldOf putField errorFlags clearError checkTimeout late
+broken-of-the-rust = refl
+
+broken-departs : checkDeparts (checksOf line) (some (Failed (flagged Bus 0x0500))) ≡ true
+unfolding hasBit
+broken-departs = refl
+
+broken-moved : EndsMoved (endAfter line zeros [] (after-word 0x0500)) (demands.rust 7 line 0 (after-word 0x0500) .end)
+broken-moved = demand-2 .moved line zeros [] refl line-accepted 7 (after-word 0x0500) (omega arith) (ap (checkDeparts (checksOf line)) broken-ends ∙ broken-departs)
+
+-- the text that stops at such a word goes less far: an error check read it
+broken-read : BerrUnread 7 line 0 (after-word 0x0500) → ⊥
+unfolding untilWith oursWith rust.validate-address rust.write-bytes rust.send-byte rust.wait-flag ours.check-and-clear-error-flags check-errors errorOf rust.abort-transfer rust.finish-transfer rust.generate-stop hasBit putBit fieldOf putField errorFlags clearError checkTimeout late
+broken-read u = none≢some (ap (λ (s : Shown). s .end) u)
+  where
+    none≢some : none ≡ some (Failed (flagged Bus 0x0500)) → ⊥
+    none≢some e = subst present (sym e) tt
+      where
+        present : Option Ending → Type 0
+        present none = ⊥
+        present (some x) = Unit {0}
+
+-- a slave's byte on this chip, with OVR and BERR; the Rust has Overrun there
+abbrev heard : Call
+heard = respondToWrite 3
+
+heard-ours : demands.ours 7 heard 1 (after-word 0x0900) .end ≡ some (Failed (flagged Bus 0x0900))
+unfolding oursSlave slave.blocking-respond-to-write slave.check-errors-and-time slave.abort-slave-transfer slave.disable-slave-transfers slave.clear-stopf check-errors errorOf hasBit putBit putField errorFlags clearError checkTimeout late
+heard-ours = refl
+
+heard-of-the-rust : demands.rust 7 heard 1 (after-word 0x0900) .end ≡ some (failed Overrun)
+unfolding rustSlave slave.blocking-respond-to-write slave.check-errors-and-time slave.slave-handle-errors slave.abort-slave-transfer slave.disable-slave-transfers slave.clear-stopf hasBit putBit putField errorFlags clearError checkTimeout late
+heard-of-the-rust = refl
 
 -- ---- payloads that agree: a transaction divided otherwise, of the same bytes; a receive that gets the same bytes
 

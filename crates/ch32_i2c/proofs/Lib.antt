@@ -23,6 +23,8 @@ pub mod Refuses
 pub mod Paired
 pub mod SlaveEnds
 pub mod RustRefuses
+pub mod Moved
+pub mod Unread
 pub mod Words
 pub mod RunsRecord
 pub mod Demands

@@ -1,7 +1,7 @@
 -- What accepted calls write: address words and clock settings are document 01's.
 -- Assumes nothing.
 use mathlib.Core.Path.{_≡_, refl, ap, sym, subst, _∙_}
-use mathlib.Core.Bool.{Bool, true, false, cond, not, _&&_, _||_, true≢false}
+use mathlib.Core.Bool.{Bool, true, false, cond, not, _&&_, true≢false}
 use mathlib.Core.List.{List, [], _∷_, map}
 use mathlib.Core.Option.{Option, none}
 use Prim.Native.Nat.{ℕ, _+_, _*_, _%_, _<_, _≤_}
@@ -23,6 +23,7 @@ use Rattle.access.specs.Program.{Access, read, write, send, clock}
 use Rattle.access.specs.Record.{Event, Shown, isData, strikeAt, strike}
 use Rattle.access.specs.Record as layer1
 use Rattle.access.specs.Machine.{Machine, seenOwed, seenAnswered, shownFrom}
+use Rattle.access.proofs.Choice.{first-false, second-false}
 use Rattle.operations.specs.Operations.{shaped}
 use Rattle.timing.specs.declared.settings.Duty.{Duty}
 use Rattle.timing.specs.declared.settings.Timing.{Timing}
@@ -165,14 +166,6 @@ module _ (c : Call) (l : Lent) (accepted : refusal c l ≡ none) where
       (shown-obeys (addressing (c .address)) (master (shapeOf c l)) (l .written) (λ m. Unit {0}) (λ m a g. tt) (λ m g. needs-obey m) (start (shapeOf c l)) tt answers)
 
 -- ---- init_slave
-
-first-false : (a b : Bool) → a || b ≡ false → a ≡ false
-first-false true b q = absurd (true≢false q)
-first-false false b q = refl
-
-pub second-false : (a b : Bool) → a || b ≡ false → b ≡ false
-second-false true b q = absurd (true≢false q)
-second-false false b q = q
 
 module _ (ten a has second general stretching : ℕ) where
   abbrev config : SlaveConfig

@@ -33,7 +33,7 @@ use Rattle.access.specs.declared.ending.Ending.{Ending}
 use Rattle.access.specs.declared.ending.Ending.the-variants.{Done, Failed}
 use Rattle.access.specs.declared.ending.Failure.{Failure}
 use Rattle.access.specs.declared.ending.Error.{Error}
-use Rattle.access.specs.declared.ending.Error.the-variants.{InvalidState, InvalidArgument}
+use Rattle.access.specs.declared.ending.Error.the-variants.{Bus, InvalidState, InvalidArgument}
 use Rattle.access.specs.declared.next.Next.{Next}
 use Rattle.access.specs.declared.next.Next.the-variants as next
 use Rattle.access.specs.Endings.{errorNumber, done, returned, returnedBoth, failed}
@@ -43,7 +43,9 @@ use Rattle.access.specs.Program as program
 use Rattle.access.specs.Record.{Shown, noMore, shownOf, Same, EndsAlike}
 use Rattle.alike.specs.Like.{forgetEnd, forgetting}
 use Rattle.errors.specs.Met.{isMet}
-use Rattle.errors.specs.AsTheRust.{asTheRust, FlagsForgotten}
+use Rattle.errors.specs.Check.{isBerr}
+use Rattle.errors.specs.AsTheRust.{asTheRust, addedForgotten, FlagsDecide}
+use Rattle.errors.specs.Departs.{endDeparts, ClassIsTheRusts}
 use Rattle.operations.specs.Operations.{operationsOf}
 use Rattle.operations.specs.Runs.{isEmpty}
 use Rattle.block.specs.Bytes32.{blockSize}
@@ -58,7 +60,7 @@ use Rattle.master.specs.Steps as master
 use Rattle.master.specs.Rust.{Parts, theRust}
 use Rattle.master.specs.Ours as parts
 use Rattle.master.specs.Joined.{Joined, JW, JR, joined, runs-program}
-use Rattle.master.specs.Calls.{Lent, lentWith, cut, refuse, refusal, rustWith, oursWith, spansBy, NoAddedCause}
+use Rattle.master.specs.Calls.{Lent, lentWith, cut, refuse, refusal, rustWith, oursWith, untilWith, spansBy, NoAddedCause}
 use Rattle.master.specs.Claims.{RunsJoin}
 use Rattle.slave.specs.declared.config.SlaveAddress.{SlaveAddress}
 use Rattle.slave.specs.declared.config.SlaveAddress.the-variants.{SevenBit, TenBit}
@@ -68,7 +70,7 @@ use Rattle.slave.specs.declared.state.Kind.the-variants.{Listen, RespondToWrite
 use Rattle.slave.specs.Reserved.{configReserved}
 use Rattle.slave.specs.Init.{initRefusal}
 use Rattle.slave.specs.Init as initSlaveMachine
-use Rattle.slave.specs.Calls.{SlaveLent, sizeOf, sizeRefusal, rustInit, rustSlave, oursSlave}
+use Rattle.slave.specs.Calls.{SlaveLent, sizeOf, sizeRefusal, rustInit, rustSlave, oursSlave, untilSlave}
 use Rattle.slave.specs.Steps as slave
 use Rattle.slave.specs.Rust.{send-status}
 use Rattle.slave.specs.Claims.{CountsAsTheRust}
@@ -196,17 +198,44 @@ rust = layer1 rustWith rustSlave
 abbrev pub ours : ℕ → Call → ℕ → List ℕ → Shown
 ours = layer1 oursWith oursSlave
 
--- an end of ours as the Rust's: what the Rust lacks is forgotten
+-- our text, which goes no further where an error check reads a word with BERR
+abbrev pub untilBerr : ℕ → Call → ℕ → List ℕ → Shown
+untilBerr = layer1 untilWith untilSlave
+
+-- the error check of a call: its chip's, and a master's (`nack`) or a slave's. `init` and `init_slave` have none
+pub data Checks : Type 0 where
+  unchecked : Checks
+  checked : (chip : Chip) (nack : Bool) → Checks
+
+abbrev pub checksOf : Call → Checks
+checksOf (init chip input frequency duty) = unchecked
+checksOf (transaction chip address list written) = checked (chipOf chip) true
+checksOf (writeRead chip address written) = checked (chipOf chip) true
+checksOf (write chip address option written) = checked (chipOf chip) true
+checksOf (read chip address option) = checked (chipOf chip) true
+checksOf (initSlave ten address has second general stretching) = unchecked
+checksOf (listen chip) = checked (chipOf chip) false
+checksOf (respondToWrite chip) = checked (chipOf chip) false
+checksOf (respondToRead chip reply) = checked (chipOf chip) false
+
+-- an end of ours as the Rust's: what the Rust lacks is forgotten, and the Rust's order finds the class among the flags
+abbrev pub checkAsTheRust : Checks → Ending → Ending
+checkAsTheRust unchecked e = e
+checkAsTheRust (checked chip nack) e = asTheRust chip nack e
+
 abbrev pub endAsTheRust : Call → Ending → Ending
-endAsTheRust (init chip input frequency duty) e = e
-endAsTheRust (transaction chip address list written) e = asTheRust (chipOf chip) true e
-endAsTheRust (writeRead chip address written) e = asTheRust (chipOf chip) true e
-endAsTheRust (write chip address option written) e = asTheRust (chipOf chip) true e
-endAsTheRust (read chip address option) e = asTheRust (chipOf chip) true e
-endAsTheRust (initSlave ten address has second general stretching) e = e
-endAsTheRust (listen chip) e = asTheRust (chipOf chip) false e
-endAsTheRust (respondToWrite chip) e = asTheRust (chipOf chip) false e
-endAsTheRust (respondToRead chip reply) e = asTheRust (chipOf chip) false e
+endAsTheRust c = checkAsTheRust (checksOf c)
+
+-- BERR decides on its chip
+abbrev pub checksBerr : Checks → Bool
+checksBerr unchecked = false
+checksBerr (checked chip nack) = chip .ch32v4
+
+-- the end's flags are a word at which our order finds another class than the Rust's
+abbrev pub checkDeparts : Checks → Option Ending → Bool
+checkDeparts unchecked e = false
+checkDeparts (checked chip nack) none = false
+checkDeparts (checked chip nack) (some e) = endDeparts chip nack e
 
 -- the refusals that the Rust gives too: 6 and 9
 abbrev pub theRusts : Error → Bool
@@ -250,11 +279,41 @@ pub record Records (c : Call) (block bytes answers : List ℕ) (s : Shown) : Typ
   pub end-is : endAfter c block bytes answers ≡ s .end
   pub read-is : leftAfter c block bytes answers .read ≡ stored (s .arrivals) bytes
 
--- the same of the Rust's text, whose end is ours with what it lacks forgotten
-pub record RecordsRust (c : Call) (block bytes answers : List ℕ) (s : Shown) : Type 0 where
+-- the same of a text whose end is ours with something of it forgotten
+pub record RecordsBy (forget : Ending → Ending) (c : Call) (block bytes answers : List ℕ) (s : Shown) : Type 0 where
   pub record-is : recordAfter c block bytes answers ≡ recordIn s
-  pub end-is : forgetEnd (endAsTheRust c) (endAfter c block bytes answers) ≡ s .end
+  pub end-is : forgetEnd forget (endAfter c block bytes answers) ≡ s .end
   pub read-is : leftAfter c block bytes answers .read ≡ stored (s .arrivals) bytes
+
+-- the Rust's accesses and bytes, and its end once ours is read as the Rust's
+abbrev pub RecordsRust : Call → List ℕ → List ℕ → List ℕ → Shown → Type 0
+RecordsRust c = RecordsBy (endAsTheRust c) c
+
+-- the Rust's accesses, bytes and end; ours has a second count and flags beside it, and nothing else is forgotten
+abbrev pub IsTheRust : Call → List ℕ → List ℕ → List ℕ → Shown → Type 0
+IsTheRust c = RecordsBy addedForgotten c
+
+-- no word that an error check reads has BERR: our text goes as far if it stops at such a word. (Each such word is cleared, so that ours makes an
+-- access more there.)
+abbrev pub BerrUnread : ℕ → Call → ℕ → List ℕ → Type 0
+BerrUnread turns c room answers = untilBerr turns c room answers ≡ ours turns c room answers
+
+-- a record has an answer to a read of STAR1 with BERR
+abbrev pub seesBerr : Next → Option ℕ → Bool
+seesBerr (next.Read r) none = false
+seesBerr (next.Read r) (some w) = isBerr r w
+seesBerr (next.Write r v) a = false
+seesBerr next.Clock a = false
+seesBerr (next.End e) a = false
+
+abbrev pub hasBerr : List Seen → Bool
+hasBerr [] = false
+hasBerr (x ∷ xs) = seesBerr (x .next) (x .answer) || hasBerr xs
+
+-- ours ends with Bus, and the Rust with another error
+pub record EndsMoved (ours rust : Option Ending) : Type 0 where
+  pub bus : forgetEnd addedForgotten ours ≡ some (failed Bus)
+  pub other : (rust ≡ some (failed Bus)) → ⊥
 
 -- ---- demand 1: one next step, and bad calls refused
 
@@ -432,8 +491,25 @@ pub record Demand2 : Type 0 where
   -- it lacks a reply's second count, and of the first nothing is forgotten: without the second a reply IS the Rust's program
   pub counts : CountsAsTheRust
   pub second : (chip : ℕ) (reply : List ℕ) (v x : ℕ) → endAsTheRust (respondToRead chip reply) (returnedBoth v x) ≡ returned v
-  -- it lacks the flags of an error, and of the error nothing is forgotten
-  pub flags : FlagsForgotten
+  -- it lacks the flags of an error, and where a check decided its error is the class that its own order finds in the word
+  pub flags : FlagsDecide
+  -- WHERE THE PORT IS THE RUST UNCHANGED. On a chip without ch32v4, for every list of answers
+  pub without-ch32v4 : (c : Call) (block bytes : List ℕ) → Reads c bytes → Accepted c block bytes → checksBerr (checksOf c) ≡ false → (turns : ℕ) (answers : List ℕ) → length answers < turns
+      → IsTheRust c block bytes answers (rust turns c (length bytes) answers)
+  -- with ch32v4, for every list of answers in which no word that an error check reads has BERR
+  pub without-berr : (c : Call) (block bytes : List ℕ) → Reads c bytes → Accepted c block bytes → (turns : ℕ) (answers : List ℕ) → length answers < turns → BerrUnread turns c (length bytes) answers
+      → IsTheRust c block bytes answers (rust turns c (length bytes) answers)
+  -- which is so if no answer to a read of STAR1 in the record has it
+  pub unread : (c : Call) (block bytes : List ℕ) → Reads c bytes → Accepted c block bytes → (turns : ℕ) (answers : List ℕ) → length answers < turns → hasBerr (recordAfter c block bytes answers) ≡ false
+      → BerrUnread turns c (length bytes) answers
+  -- and exactly, by the end: it is, unless the flags of the end are a word at which the two orders differ; there ours ends with Bus, and the Rust
+  -- with another error
+  pub unmoved : (c : Call) (block bytes : List ℕ) → Reads c bytes → Accepted c block bytes → (turns : ℕ) (answers : List ℕ) → length answers < turns
+      → checkDeparts (checksOf c) (endAfter c block bytes answers) ≡ false → IsTheRust c block bytes answers (rust turns c (length bytes) answers)
+  pub moved : (c : Call) (block bytes : List ℕ) → Reads c bytes → Accepted c block bytes → (turns : ℕ) (answers : List ℕ) → length answers < turns
+      → checkDeparts (checksOf c) (endAfter c block bytes answers) ≡ true → EndsMoved (endAfter c block bytes answers) (rust turns c (length bytes) answers .end)
+  -- the words are those with BERR set and ARLO clear on ch32v4 that have one more flag that is an error (`departs`, errors/specs/Departs.antt)
+  pub classes : ClassIsTheRusts
   -- nothing is forgotten of any other end that no error check decided
   pub others : (c : Call) (e : Error) → endAsTheRust c (failed e) ≡ failed e
   pub returns : (c : Call) (v : ℕ) → endAsTheRust c (returned v) ≡ returned v

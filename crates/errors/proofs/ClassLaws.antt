@@ -1,9 +1,8 @@
 -- Laws of a status word's class.
 -- Assumes nothing.
 use Prim.Native.Nat.{ℕ}
-use mathlib.Core.Path.{_≡_, refl, sym, ap, _∙_, subst}
+use mathlib.Core.Path.{_≡_, refl, sym, _∙_}
 use mathlib.Core.Bool.{Bool, true, false, cond, _&&_}
-use mathlib.Core.List.{_∷_, _++_}
 use Rattle.registers.specs.declared.chip.Chip.{Chip}
 use Rattle.registers.specs.Bits.{BERR, ARLO, AF, OVR, PECERR, TIMEOUT}
 use Rattle.registers.specs.Word.{hasBit}
@@ -15,41 +14,31 @@ use Rattle.access.specs.declared.ending.Failure.{Failure}
 use Rattle.access.specs.Endings.{flagged}
 use Rattle.errors.specs.declared.Checked.{Checked}
 use Rattle.errors.specs.declared.Checked.the-variants.{Fine, Failed}
-use Rattle.errors.specs.Classes.{class, only, firstOf, errorOf, decided}
+use Rattle.errors.specs.Classes.{classes, firstOf, errorOf, decided}
 
 -- an error with the flags of the word
 abbrev found : Error → ℕ → Failure
 found e w = flagged e (errorFlags w)
 
-decided-if {ℓ} : {X : Type ℓ} (t : Bool) (f : Failure) (c : Checked) (h : Failure → X) (p : X) → decided (cond t (Failed f) c) h p ≡ cond t (h f) (decided c h p)
+pub decided-if {ℓ} : {X : Type ℓ} (t : Bool) (f : Failure) (c : Checked) (h : Failure → X) (p : X) → decided (cond t (Failed f) c) h p ≡ cond t (h f) (decided c h p)
 decided-if true f c h p = refl
 decided-if false f c h p = refl
 
--- a chain of ifs as the Rust's goes by the class
-pub by-class {ℓ} : {X : Type ℓ} (chip : Chip) (nack : Bool) (w : ℕ) (h : Failure → X) (p : X)
-    → cond (hasBit ARLO w) (h (found Arbitration w))
-    (cond (chip .«i2c_v3» && hasBit TIMEOUT w) (h (found Timeout w))
-    (cond (hasBit PECERR w) (h (found Crc w))
-    (cond (hasBit OVR w) (h (found Overrun w))
-    (cond (nack && hasBit AF w) (h (found Nack w))
-    (cond (chip .ch32v4 && hasBit BERR w) (h (found Bus w)) p)))))
-    ≡ decided (errorOf chip nack w) h p
+-- the list's order as a chain of ifs, over the six tests: ARLO, BERR, TIMEOUT, PECERR, OVR and AF, each where it is an error
+abbrev pub chain {ℓ} : {X : Type ℓ} → (a b t c o n : Bool) → (Error → X) → X → X
+chain a b t c o n h p = cond a (h Arbitration) (cond b (h Bus) (cond t (h Timeout) (cond c (h Crc) (cond o (h Overrun) (cond n (h Nack) p)))))
+
+-- of a word
+abbrev pub ourChain {ℓ} : {X : Type ℓ} → Chip → Bool → ℕ → (Error → X) → X → X
+ourChain chip nack w = chain (hasBit ARLO w) (chip .ch32v4 && hasBit BERR w) (chip .«i2c_v3» && hasBit TIMEOUT w) (hasBit PECERR w) (hasBit OVR w) (nack && hasBit AF w)
+
+-- it goes by the class
+pub by-class {ℓ} : {X : Type ℓ} (chip : Chip) (nack : Bool) (w : ℕ) (h : Failure → X) (p : X) → ourChain chip nack w (λ e. h (found e w)) p ≡ decided (errorOf chip nack w) h p
 unfolding errorOf
-by-class chip nack w h p = go (chip .«i2c_v3») nack (chip .ch32v4)
+by-class chip nack w h p = go (chip .ch32v4) (chip .«i2c_v3») nack
   where
-    go : (v3 n v4 : Bool)
-        → cond (hasBit ARLO w) (h (found Arbitration w))
-        (cond (v3 && hasBit TIMEOUT w) (h (found Timeout w))
-        (cond (hasBit PECERR w) (h (found Crc w))
-        (cond (hasBit OVR w) (h (found Overrun w))
-        (cond (n && hasBit AF w) (h (found Nack w))
-        (cond (v4 && hasBit BERR w) (h (found Bus w)) p)))))
-        ≡ decided
-        (firstOf
-        (class ARLO Arbitration ∷ only v3 (class TIMEOUT Timeout)
-        ++ class PECERR Crc ∷ class OVR Overrun ∷ only n (class AF Nack)
-        ++ only v4 (class BERR Bus))
-        w) h p
+    go : (v4 v3 n : Bool) → chain (hasBit ARLO w) (v4 && hasBit BERR w) (v3 && hasBit TIMEOUT w) (hasBit PECERR w) (hasBit OVR w) (n && hasBit AF w) (λ e. h (found e w)) p
+        ≡ decided (firstOf (classes (record { «i2c_v3» = v3; ch32v4 = v4 }) n) w) h p
     go true true true = simp decided-if
     go true true false = simp decided-if
     go true false true = simp decided-if
@@ -59,15 +48,8 @@ by-class chip nack w h p = go (chip .«i2c_v3») nack (chip .ch32v4)
     go false false true = simp decided-if
     go false false false = simp decided-if
 
--- the same of the class itself
-pub as-ifs : (chip : Chip) (nack : Bool) (w : ℕ)
-    → cond (hasBit ARLO w) (Failed (found Arbitration w))
-    (cond (chip .«i2c_v3» && hasBit TIMEOUT w) (Failed (found Timeout w))
-    (cond (hasBit PECERR w) (Failed (found Crc w))
-    (cond (hasBit OVR w) (Failed (found Overrun w))
-    (cond (nack && hasBit AF w) (Failed (found Nack w))
-    (cond (chip .ch32v4 && hasBit BERR w) (Failed (found Bus w)) Fine)))))
-    ≡ errorOf chip nack w
+-- the class itself
+pub as-ifs : (chip : Chip) (nack : Bool) (w : ℕ) → ourChain chip nack w (λ e. Failed (found e w)) Fine ≡ errorOf chip nack w
 as-ifs chip nack w = by-class chip nack w Failed Fine ∙ same (errorOf chip nack w)
   where
     same : (c : Checked) → decided c Failed Fine ≡ c
@@ -79,10 +61,10 @@ pub no-flags : (chip : Chip) (nack : Bool) (w : ℕ) → errorFlags w ≡ 0 → 
 no-flags chip nack w z =
     let f = clear-flags w z in
     sym (as-ifs chip nack w)
-    ∙ rw (f .arlo, f .timeout, f .pecerr, f .ovr, f .af, f .berr)
-    (rest (chip .«i2c_v3») nack (chip .ch32v4))
+    ∙ rw (f .arlo, f .berr, f .timeout, f .pecerr, f .ovr, f .af)
+    (rest (chip .ch32v4) (chip .«i2c_v3») nack)
   where
-    rest : (a b c : Bool) → cond (a && false) (Failed (found Timeout w)) (cond (b && false) (Failed (found Nack w)) (cond (c && false) (Failed (found Bus w)) Fine)) ≡ Fine
+    rest : (a b c : Bool) → chain false (a && false) (b && false) false false (c && false) (λ e. Failed (found e w)) Fine ≡ Fine
     rest true true true = refl
     rest true true false = refl
     rest true false true = refl

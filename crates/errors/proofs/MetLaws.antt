@@ -12,6 +12,7 @@ use Rattle.registers.specs.Word.{hasBit}
 use Rattle.registers.specs.Flags.{errorFlags}
 use Rattle.registers.proofs.FlagLaws.{same-flags, flags-again}
 use Rattle.access.specs.declared.ending.Error.{Error}
+use Rattle.access.specs.declared.ending.Error.the-variants.{Bus, Arbitration, Nack, Timeout, Crc, Overrun}
 use Rattle.access.specs.declared.ending.Failure.{Failure}
 use Rattle.access.specs.Endings.{errorNumber, flagged, failureOf, returnedBoth, endingOf}
 use Rattle.access.specs.Endings as access
@@ -23,33 +24,36 @@ use Rattle.errors.specs.declared.Checked.{Checked}
 use Rattle.errors.specs.declared.Checked.the-variants.{Fine, Failed}
 use Rattle.errors.specs.Classes.{errorOf, decided}
 use Rattle.errors.specs.Met.{sameFailure, unchecked, isMet, hasFailed}
-use Rattle.errors.proofs.ClassLaws.{by-class, as-ifs, no-flags}
+use Rattle.errors.proofs.ClassLaws.{chain, by-class, as-ifs, no-flags}
 
 -- a check of a word's error flags finds what it finds in the word
 found-again : (chip : Chip) (nack : Bool) (w : ℕ) → errorOf chip nack (errorFlags w) ≡ errorOf chip nack w
 found-again chip nack w =
     let s = same-flags w in
-    sym (as-ifs chip nack (errorFlags w)) ∙ rw (s .arlo, s .timeout, s .pecerr, s .ovr, s .af, s .berr, flags-again w) (as-ifs chip nack w)
+    sym (as-ifs chip nack (errorFlags w)) ∙ rw (s .arlo, s .berr, s .timeout, s .pecerr, s .ovr, s .af, flags-again w) (as-ifs chip nack w)
 
 -- what a check finds: the word's flags, and an error from 1 to 6
-record Finds (w : ℕ) (f : Failure) : Type 0 where
-  flags : f .flags ≡ errorFlags w
-  above : 0 < errorNumber (f .error)
-  small : errorNumber (f .error) ≤ 6
+pub record Finds (w : ℕ) (f : Failure) : Type 0 where
+  pub flags : f .flags ≡ errorFlags w
+  pub above : 0 < errorNumber (f .error)
+  pub small : errorNumber (f .error) ≤ 6
 
-either : (b : Bool) {A B : Type 0} → A → B → cond b A B
-either true x y = x
-either false x y = y
-
-finds : (chip : Chip) (nack : Bool) (w : ℕ) → decided (errorOf chip nack w) (Finds w) (Unit {0})
+pub finds : (chip : Chip) (nack : Bool) (w : ℕ) → decided (errorOf chip nack w) (Finds w) (Unit {0})
 finds chip nack w =
     subst (λ (T : Type 0). T) (by-class chip nack w (Finds w) (Unit {0}))
-    (either (hasBit ARLO w) (record { flags = refl; above = omega arith; small = omega arith })
-    (either (chip .«i2c_v3» && hasBit TIMEOUT w) (record { flags = refl; above = omega arith; small = omega arith })
-    (either (hasBit PECERR w) (record { flags = refl; above = omega arith; small = omega arith })
-    (either (hasBit OVR w) (record { flags = refl; above = omega arith; small = omega arith })
-    (either (nack && hasBit AF w) (record { flags = refl; above = omega arith; small = omega arith })
-    (either (chip .ch32v4 && hasBit BERR w) (record { flags = refl; above = omega arith; small = omega arith }) tt))))))
+    (each (hasBit ARLO w) (chip .ch32v4 && hasBit BERR w) (chip .«i2c_v3» && hasBit TIMEOUT w) (hasBit PECERR w) (hasBit OVR w) (nack && hasBit AF w))
+  where
+    one : (e : Error) → 0 < errorNumber e → errorNumber e ≤ 6 → Finds w (flagged e (errorFlags w))
+    one e a s = record { flags = refl; above = a; small = s }
+
+    each : (a b t c o n : Bool) → chain a b t c o n (λ e. Finds w (flagged e (errorFlags w))) (Unit {0})
+    each true b t c o n = one Arbitration (omega arith) (omega arith)
+    each false true t c o n = one Bus (omega arith) (omega arith)
+    each false false true c o n = one Timeout (omega arith) (omega arith)
+    each false false false true o n = one Crc (omega arith) (omega arith)
+    each false false false false true n = one Overrun (omega arith) (omega arith)
+    each false false false false false true = one Nack (omega arith) (omega arith)
+    each false false false false false false = tt
 
 -- an error that a check found can be met; so can a late clock and a lost START, and nothing else without flags
 pub found-met : (chip : Chip) (nack : Bool) (w : ℕ) → decided (errorOf chip nack w) (λ f. isMet chip nack f ≡ true) (Unit {0})

@@ -24,12 +24,13 @@ class f e = record { flag = f; error = e }
 abbrev pub only : Bool → Class → List Class
 only b c = cond b (c ∷ []) []
 
--- document 01's order. TIMEOUT decides with i2c_v3, BERR with ch32v4, and AF for a master
+-- document 01's order, with document 02's change: BERR, which decides with ch32v4 alone, comes directly behind ARLO and not last. TIMEOUT
+-- decides with i2c_v3, and AF for a master
 abbrev pub classes : Chip → Bool → List Class
 classes chip nack =
-    class ARLO Arbitration ∷ only (chip .«i2c_v3») (class TIMEOUT Timeout)
+    class ARLO Arbitration ∷ only (chip .ch32v4) (class BERR Bus)
+    ++ only (chip .«i2c_v3») (class TIMEOUT Timeout)
     ++ class PECERR Crc ∷ class OVR Overrun ∷ only nack (class AF Nack)
-    ++ only (chip .ch32v4) (class BERR Bus)
 
 -- the first flag that is set, and with its error all error flags of the word
 abbrev pub firstOf : List Class → ℕ → Checked

@@ -29,9 +29,10 @@ flagEdges =
     -- AF is a master's; the first class decides
     fit false false true Nack 0x0400 1 ∷ fit false false false Nack 0x0400 0
     ∷ fit false false true Arbitration 0x0600 1 ∷ fit false false true Nack 0x0600 0
-    -- TIMEOUT and BERR by the chip, and BERR last
+    -- TIMEOUT and BERR by the chip, and BERR directly behind ARLO
     ∷ fit true false true Timeout 0x4000 1 ∷ fit false false true Timeout 0x4000 0
-    ∷ fit false true true Bus 0x0100 1 ∷ fit true false true Bus 0x0100 0 ∷ fit true true false Overrun 0x0900 1 ∷ fit true true false Bus 0x0900 0
+    ∷ fit false true true Bus 0x0100 1 ∷ fit true false true Bus 0x0100 0 ∷ fit true true false Overrun 0x0900 0 ∷ fit true true false Bus 0x0900 1
+    ∷ fit true true true Bus 0x5d00 1 ∷ fit true true true Arbitration 0x5f00 1 ∷ fit true false true Nack 0x0500 1 ∷ fit true true true Nack 0x0500 0
     -- without flags a late clock, and a master's lost START
     ∷ fit false false true Timeout 0 1 ∷ fit false false false Timeout 0 1 ∷ fit false false true Arbitration 0 1 ∷ fit false false false Arbitration 0 0
     -- no other bits, and no refusal

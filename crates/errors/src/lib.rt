@@ -34,6 +34,9 @@ pub fn error_of(status: u16, chip: Chip, nack: bool) -> Checked
     if word::bit(status, bits::ARLO) {
         return failed(Error::Arbitration, status);
     }
+    if chip.ch32v4 & word::bit(status, bits::BERR) {
+        return failed(Error::Bus, status);
+    }
     if chip.i2c_v3 & word::bit(status, bits::TIMEOUT) {
         return failed(Error::Timeout, status);
     }
@@ -45,9 +48,6 @@ pub fn error_of(status: u16, chip: Chip, nack: bool) -> Checked
     }
     if nack & word::bit(status, bits::AF) {
         return failed(Error::Nack, status);
-    }
-    if chip.ch32v4 & word::bit(status, bits::BERR) {
-        return failed(Error::Bus, status);
     }
     Checked::Fine
 }

@@ -13,7 +13,7 @@ use Rattle.access.specs.declared.ending.Failure.{Failure}
 use Rattle.access.specs.declared.ending.Error.the-variants.{Arbitration, Timeout}
 use Rattle.access.specs.Endings.{failureOf, isDone}
 use Rattle.access.specs.Program.{late}
-use Rattle.access.proofs.Choice.{chosen, both-true, first-true, second-true, either-true, other-true, same-true, true-same}
+use Rattle.access.proofs.Choice.{chosen, both-true, first-true, second-true, first-false, either-true, other-true, same-true, true-same}
 use Rattle.errors.specs.declared.Checked.{Checked}
 use Rattle.errors.specs.declared.Checked.the-variants as checked
 use Rattle.errors.specs.Classes.{errorOf, decided}
@@ -71,10 +71,6 @@ above-three (suc zero) p a b c = absurd (a refl)
 above-three (suc (suc zero)) p a b c = absurd (b refl)
 above-three (suc (suc (suc zero))) p a b c = absurd (c refl)
 above-three (suc (suc (suc (suc n)))) p a b c = omega arith
-
-neither : (a b : Bool) → a || b ≡ false → a ≡ false
-neither true b e = e
-neither false b e = refl
 
 module _ (sh : Shape) (sound : Sound sh) where
   abbrev g : Setting
@@ -541,7 +537,7 @@ module _ (sh : Shape) (sound : Sound sh) where
       begins-run q = at Begin fresh f q
 
       sends-at-once : isRead (r .direction) || g .frame .«send_start» ≡ false → Fit (writeBytes g r (begun r fresh))
-      sends-at-once q = sends-on-fits (begun-here fresh f refl) (neither (isRead (r .direction)) (g .frame .«send_start») q)
+      sends-at-once q = sends-on-fits (begun-here fresh f refl) (first-false (isRead (r .direction)) (g .frame .«send_start») q)
 
   -- a call begins with a state that fits
   pub fits-start : fits sh (start sh) ≡ true

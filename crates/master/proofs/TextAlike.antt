@@ -17,14 +17,14 @@ use Rattle.master.specs.declared.call.Frame.{Frame}
 use Rattle.master.specs.Rust.{Operation, Write, Read, isRead}
 use Rattle.access.specs.declared.ending.Ending.{Ending}
 use Rattle.access.specs.Endings.{failureOf, failed}
-use Rattle.access.specs.Program.{Blocking, checkTimeout}
+use Rattle.access.specs.Program.{Access, Blocking, checkTimeout}
 use Rattle.master.specs.Rust.{fail, generate-stop, finish-transfer, abort-transfer, validate-address, wait-stop-finished, launch-start, checked-add, validate-from, validate-operations, wait-flag, send-byte, start-and-address, write-bytes, recv-byte, wait-btf, recv-next, take-next, recv-all, recv-above-3, blocking-read-iter, blocking-read-timeout, blocking-write-read, write-group, transact, blocking-transaction}
 use Rattle.alike.specs.Like.{Alike}
 use Rattle.alike.proofs.LikeLaws.{pure-alike, _>>=-alike_, _>>-alike_, read-alike, write-alike, modify-alike, send-alike, store-alike, if-alike, only-alike, or-alike, drop-alike, while-alike, each-alike, throw-alike, timeout-alike}
 
-module _ (forget : Ending → Ending) (fixed : (e : Error) → forget (failed e) ≡ failed e) (chip : Chip) where
+module _ (forget : Ending → Ending) (allowed : Access → ℕ → Bool) (fixed : (e : Error) → forget (failed e) ≡ failed e) (chip : Chip) where
   abbrev _≈_ : {A : Type 0} → Blocking A → Blocking A → Type 0
-  _≈_ m m′ = Alike forget m m′
+  _≈_ m m′ = Alike forget allowed m m′
 
   infix 5 _≈_
   -- ---- what needs none of the parts

@@ -26,7 +26,7 @@ use Rattle.master.specs.declared.call.Call.{Call}
 use Rattle.master.specs.declared.call.Setting.{Setting}
 use Rattle.master.specs.Rust as text
 use Rattle.master.specs.Rust.{Parts, theRust}
-use Rattle.master.specs.Ours.{ours}
+use Rattle.master.specs.Ours.{ours, until-berr}
 use Rattle.master.specs.Machine.{Shape, master, start}
 
 -- the list of operations, the bytes to write, and how many bytes are lent for reading
@@ -60,6 +60,9 @@ rustWith turns c l answers = shownWith (theRust (c .chip)) turns c l answers
 
 unfoldable pub oursWith : ℕ → Call → Lent → List ℕ → Shown
 oursWith turns c l answers = shownWith (ours (c .chip)) turns c l answers
+
+unfoldable pub untilWith : ℕ → Call → Lent → List ℕ → Shown
+untilWith turns c l answers = shownWith (until-berr (c .chip)) turns c l answers
 
 -- ---- layer 2
 

@@ -9,8 +9,9 @@ use Rattle.registers.specs.declared.chip.Chip.{Chip}
 use Rattle.access.specs.declared.ending.Failure.{Failure}
 use Rattle.access.specs.Program.{Program}
 use Rattle.access.specs.Record.{DifferInPayload, Same, SameStruck}
-use Rattle.alike.specs.Like.{forgetting}
-use Rattle.errors.specs.AsTheRust.{asTheRust}
+use Rattle.alike.specs.Like.{forgetting, allAllowed}
+use Rattle.errors.specs.Check.{withoutBerr}
+use Rattle.errors.specs.AsTheRust.{asTheRust, addedForgotten}
 use Rattle.master.specs.declared.call.Call.{Call}
 use Rattle.master.specs.Rust.{Operation, Parts, theRust, transact}
 use Rattle.master.specs.Ours.{ours}
@@ -18,7 +19,7 @@ use Rattle.master.specs.Joined.{joined, runs-program}
 use Rattle.master.specs.declared.state.Move.{Move}
 use Rattle.master.specs.Machine.{advance, start}
 use Rattle.master.specs.Fits.{fits}
-use Rattle.master.specs.Calls.{Lent, NoAddedCause, Accepted, spansOf, shapeOf, callShown, rustWith, oursWith}
+use Rattle.master.specs.Calls.{Lent, NoAddedCause, Accepted, spansOf, shapeOf, callShown, rustWith, oursWith, untilWith}
 
 -- a call without an added cause of refusal shows the record, end and arrived bytes of our text, after every list of answers
 pub record MasterIsOurs : Type 0 where
@@ -29,6 +30,16 @@ pub record MasterIsOurs : Type 0 where
 -- every call, refused ones too: the Rust's record and arrived bytes are those of our text, and its end is our end, read as the Rust's
 abbrev pub OursIsTheRust : Type 0
 OursIsTheRust = (c : Call) (l : Lent) (turns : ℕ) (answers : List ℕ) → rustWith turns c l answers ≡ forgetting (asTheRust (c .chip) true) (oursWith turns c l answers)
+
+-- where no word that an error check reads has BERR, nothing changes: our text goes as far if it stops at such a word, and then it is the Rust's
+-- but for what is added to an end
+abbrev pub SameWithoutBerr : Type 0
+SameWithoutBerr = (c : Call) (l : Lent) (turns : ℕ) (answers : List ℕ) → untilWith turns c l answers ≡ oursWith turns c l answers
+    → rustWith turns c l answers ≡ forgetting addedForgotten (oursWith turns c l answers)
+
+-- so where no answer to a read of STAR1 has BERR
+abbrev pub UnreadWithoutBerr : Type 0
+UnreadWithoutBerr = (c : Call) (l : Lent) (turns : ℕ) (answers : List ℕ) → allAllowed withoutBerr (oursWith turns c l answers .events) ≡ true → untilWith turns c l answers ≡ oursWith turns c l answers
 
 -- an address that passes
 abbrev pub Passes : Parts → ℕ → Type 0

@@ -5,7 +5,7 @@ use Prim.Native.Nat.{ℕ}
 use Rattle.registers.specs.declared.chip.Chip.{Chip}
 use Rattle.registers.specs.declared.register.Register.the-variants.{Star1}
 use Rattle.access.specs.Program.{Blocking, pure, readRegister, _>>_, _>>=_}
-use Rattle.errors.specs.Check.{check-errors}
+use Rattle.errors.specs.Check.{check-errors, check-until-berr}
 use Rattle.master.specs.declared.call.Frame.{Frame}
 use Rattle.master.specs.Rust as text
 use Rattle.master.specs.Rust.{Operation, Parts}
@@ -25,8 +25,22 @@ module _ (chip : Chip) where
   abbrev pub start-and-address : Bool → ℕ → Blocking (Unit {0})
   start-and-address = text.start-and-address chip check-and-clear-error-flags
 
+  -- the Rust's, over any check
+  abbrev pub withCheck : Blocking ℕ → Parts
+  withCheck check = record { check = check; validate = text.validate-address chip; start = text.start-and-address chip check }
+
   abbrev pub ours : Parts
   ours = record { check = check-and-clear-error-flags; validate = validate-address; start = start-and-address }
+
+  -- the same, which go no further where the check reads a word with BERR
+  abbrev pub check-until : Blocking ℕ
+  check-until = do
+    status ← readRegister Star1
+    check-until-berr chip true status
+    pure status
+
+  abbrev pub until-berr : Parts
+  until-berr = withCheck check-until
 
   -- ---- the text with them
 

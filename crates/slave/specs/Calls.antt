@@ -1,5 +1,5 @@
 -- The slave's calls: what is seen of them, and of the Rust.
-use mathlib.Core.Bool.{cond}
+use mathlib.Core.Bool.{false, cond}
 use mathlib.Core.List.{List, []}
 use mathlib.Core.Option.{Option, none, some}
 use Prim.Native.Nat.{ℕ, _≤_}
@@ -10,9 +10,10 @@ use Rattle.access.specs.declared.ending.Ending.{Ending}
 use Rattle.access.specs.declared.ending.Error.{Error}
 use Rattle.access.specs.declared.ending.Error.the-variants.{BufferTooLong}
 use Rattle.access.specs.Endings.{done, returned, returnedBoth, failed}
-use Rattle.access.specs.Program.{Program, callOf}
+use Rattle.access.specs.Program.{Program, Blocking, callOf}
 use Rattle.access.specs.Record.{Shown, noMore, shownOf}
 use Rattle.access.specs.Machine.{shownFrom}
+use Rattle.errors.specs.Check.{check-until-berr}
 use Rattle.slave.specs.declared.config.SlaveConfig.{SlaveConfig}
 use Rattle.slave.specs.declared.state.Kind.{Kind}
 use Rattle.slave.specs.declared.state.Kind.the-variants.{Listen, RespondToWrite, RespondToRead}
@@ -64,27 +65,38 @@ sizeRefusal size = cond (ltb 65535 size) (some BufferTooLong) none
 unfoldable pub slaveShown : Chip → Kind → SlaveLent → List ℕ → Shown
 slaveShown chip x l answers = seenAfter (sizeRefusal (sizeOf x l)) (shownFrom (slave (settingOf chip x l)) (bytesOf x l) (start x) answers)
 
+-- the text over its parts: the error check, what a reply counts, and what it returns of this
+abbrev pub programWith : (ℕ → Blocking (Unit {0})) → (Counts : Type 0) → (ℕ → ℕ → ℕ → Counts) → (Counts → Ending) → ℕ → Chip → Kind → SlaveLent → Program
+programWith check Counts counts left turns chip Listen l = callOf (rust.blocking-listen chip check) (λ c. returned (commandNumber c)) turns
+programWith check Counts counts left turns chip RespondToWrite l = callOf (rust.blocking-respond-to-write chip check (l .room)) (λ n. returned n) turns
+programWith check Counts counts left turns chip RespondToRead l = callOf (rust.blocking-respond-to-read chip check Counts counts (l .reply)) left turns
+
 -- the Rust: the text with the Rust's own parts
+abbrev pub rustProgramWith : (ℕ → Blocking (Unit {0})) → ℕ → Chip → Kind → SlaveLent → Program
+rustProgramWith check = programWith check rust.SendStatus (λ star1. rust.send-status) (λ s. returned (statusNumber s))
+
 abbrev pub rustProgram : ℕ → Chip → Kind → SlaveLent → Program
-rustProgram turns chip Listen l = callOf (rust.blocking-listen chip (rust.slave-handle-errors chip)) (λ c. returned (commandNumber c)) turns
-rustProgram turns chip RespondToWrite l = callOf (rust.blocking-respond-to-write chip (rust.slave-handle-errors chip) (l .room)) (λ n. returned n) turns
-rustProgram turns chip RespondToRead l =
-    callOf (rust.blocking-respond-to-read chip (rust.slave-handle-errors chip) rust.SendStatus (λ star1. rust.send-status) (l .reply)) (λ s. returned (statusNumber s)) turns
+rustProgram turns chip = rustProgramWith (rust.slave-handle-errors chip) turns chip
 
 -- ours; a reply returns both its counts
 abbrev pub bothLeft : ours.Counts → Ending
 bothLeft c = returnedBoth (statusNumber (c .status)) (statusNumber (c .second))
 
+abbrev pub oursProgramWith : (ℕ → Blocking (Unit {0})) → ℕ → Chip → Kind → SlaveLent → Program
+oursProgramWith check turns chip = programWith check ours.Counts (ours.counts chip) bothLeft turns chip
+
 abbrev pub oursProgram : ℕ → Chip → Kind → SlaveLent → Program
-oursProgram turns chip Listen l = callOf (ours.blocking-listen chip) (λ c. returned (commandNumber c)) turns
-oursProgram turns chip RespondToWrite l = callOf (ours.blocking-respond-to-write chip (l .room)) (λ n. returned n) turns
-oursProgram turns chip RespondToRead l = callOf (ours.blocking-respond-to-read chip (l .reply)) (λ c. bothLeft c) turns
+oursProgram turns chip = oursProgramWith (ours.slave-handle-errors chip) turns chip
 
 unfoldable pub rustSlave : ℕ → Chip → Kind → SlaveLent → List ℕ → Shown
 rustSlave turns chip x l answers = shownOf 0 (rustProgram turns chip x l) answers
 
 unfoldable pub oursSlave : ℕ → Chip → Kind → SlaveLent → List ℕ → Shown
 oursSlave turns chip x l answers = shownOf 0 (oursProgram turns chip x l) answers
+
+-- the same, which goes no further where the check reads a word with BERR
+unfoldable pub untilSlave : ℕ → Chip → Kind → SlaveLent → List ℕ → Shown
+untilSlave turns chip x l answers = shownOf 0 (oursProgramWith (check-until-berr chip false) turns chip x l) answers
 
 -- document 01's accepted call, and one without an added cause of refusal
 abbrev pub Accepted : Kind → SlaveLent → Type 0

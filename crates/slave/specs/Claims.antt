@@ -12,8 +12,9 @@ use Rattle.access.specs.declared.ending.Error.the-variants.{ReservedAddress}
 use Rattle.access.specs.Program.{Program, Blocking}
 use Rattle.access.specs.Machine.{shownFrom}
 use Rattle.access.specs.Record.{DifferInPayload, Same, SameStruck}
-use Rattle.alike.specs.Like.{forgetting}
-use Rattle.errors.specs.AsTheRust.{asTheRust}
+use Rattle.alike.specs.Like.{forgetting, allAllowed}
+use Rattle.errors.specs.Check.{withoutBerr}
+use Rattle.errors.specs.AsTheRust.{asTheRust, addedForgotten}
 use Rattle.slave.specs.declared.config.SlaveConfig.{SlaveConfig}
 use Rattle.slave.specs.declared.state.Kind.{Kind}
 use Rattle.slave.specs.declared.state.Kind.the-variants.{RespondToWrite, RespondToRead}
@@ -25,7 +26,7 @@ use Rattle.slave.specs.Reserved.{configReserved}
 use Rattle.slave.specs.Init.{configFault, initRefusal, initMachine, started}
 use Rattle.slave.specs.Machine.{advance, start}
 use Rattle.slave.specs.Fits.{fits}
-use Rattle.slave.specs.Calls.{SlaveLent, Accepted, initShown, rustInit, slaveShown, rustSlave, oursSlave}
+use Rattle.slave.specs.Calls.{SlaveLent, Accepted, initShown, rustInit, slaveShown, rustSlave, oursSlave, untilSlave}
 
 -- every call without an added cause of refusal shows the record, end and arrived bytes of our text, after every list of answers
 pub record SlaveIsOurs : Type 0 where
@@ -47,6 +48,16 @@ CountsAsTheRust = (chip : Chip) (check : ℕ → Blocking (Unit {0})) (bytes : L
 -- the Rust's record and arrived bytes are those of our text, and its end is our end, read as the Rust's
 abbrev pub OursIsTheRust : Type 0
 OursIsTheRust = (chip : Chip) (x : Kind) (l : SlaveLent) (turns : ℕ) (answers : List ℕ) → rustSlave turns chip x l answers ≡ forgetting (asTheRust chip false) (oursSlave turns chip x l answers)
+
+-- where no word that an error check reads has BERR, nothing changes: our text goes as far if it stops at such a word, and then it is the Rust's
+-- but for what is added to an end
+abbrev pub SameWithoutBerr : Type 0
+SameWithoutBerr = (chip : Chip) (x : Kind) (l : SlaveLent) (turns : ℕ) (answers : List ℕ) → untilSlave turns chip x l answers ≡ oursSlave turns chip x l answers
+    → rustSlave turns chip x l answers ≡ forgetting addedForgotten (oursSlave turns chip x l answers)
+
+-- so where no answer to a read of STAR1 has BERR
+abbrev pub UnreadWithoutBerr : Type 0
+UnreadWithoutBerr = (chip : Chip) (x : Kind) (l : SlaveLent) (turns : ℕ) (answers : List ℕ) → allAllowed withoutBerr (oursSlave turns chip x l answers .events) ≡ true → untilSlave turns chip x l answers ≡ oursSlave turns chip x l answers
 
 -- any two ends
 abbrev pub Any : Ending → Ending → Type 0

@@ -1,0 +1,11 @@
+pub mod CountLaws
+pub mod DifferentLaws
+pub mod IgnoreLaws
+pub mod BitHalves
+pub mod HalvingLaws
+pub mod PlaceLaws
+pub mod ListHalves
+pub mod ChipLaws
+pub mod LeftLaws
+pub mod CardLaws
+pub mod Examples

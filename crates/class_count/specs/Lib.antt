@@ -1,0 +1,6 @@
+pub mod Counting
+pub mod Order
+pub mod Halving
+pub mod ClassWords
+pub mod Card
+pub mod Examples
