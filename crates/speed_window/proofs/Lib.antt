@@ -1,0 +1,5 @@
+pub mod ProductLaws
+pub mod PreferredLaws
+pub mod FormulaLaws
+pub mod FastestLaws
+pub mod WindowLaws
