@@ -3,3 +3,8 @@ pub mod PreferredLaws
 pub mod FormulaLaws
 pub mod FastestLaws
 pub mod WindowLaws
+pub mod Answers
+pub mod CeilingLaws
+pub mod SettingLaws
+pub mod PairsAreSet
+pub mod Examples
