@@ -6,8 +6,9 @@ use oracle::flags::{self, Order};
 use oracle::random::Random;
 use oracle::rust::{self, end_number, Outcome};
 use oracle::second;
-use oracle::text::number_text;
-use record::{kind, Call, Entry, ENTRIES, WRITE};
+use oracle::text::{call_line, number_text};
+use oracle::windows::{self, Pair, Window};
+use record::{kind, Call, Entry, Given, Record, ENTRIES, WRITE};
 
 use crate::library;
 
@@ -121,6 +122,34 @@ impl Player {
         self.check_reordered(call, outcome, last)?;
         let is_decided = outcome.end.is_none() || flags::decide(call, Order::Port, &outcome.record, last as u32);
         check(is_decided, || format!("the flags {:04x} do not decide the C library's end", outcome.flags))
+    }
+
+    /// Asks the library for a window: it has to return the number that brute force finds. And `init` has to set that pair.
+    pub fn play_window(&mut self, window: &Window, compared: &mut windows::Compared, random: &mut Random) -> Result<(), String> {
+        let found = windows::brute_force(window);
+        let (wanted, number) = (windows::number(found), library::speed_window(window));
+        check(number == wanted, || {
+            let (wanted, number) = (windows::number_text(wanted), windows::number_text(number));
+            format!("brute force {wanted}, the C library {number}")
+        })?;
+        compared.add(window, found);
+        let settings = found.into_iter().flat_map(|found| (0..4).map(move |chip| (found.pair, chip)));
+        for (pair, chip) in settings {
+            let Some(call) = windows::setting(window, pair, chip) else { continue };
+            self.play_setting(pair, &call, random).map_err(|difference| format!("init on chip {chip}: {difference}"))?;
+            compared.add_setting(&call);
+        }
+        Ok(())
+    }
+
+    /// `init` with a window's pair, on the Rust and by the library.
+    fn play_setting(&mut self, pair: Pair, call: &Call, random: &mut Random) -> Result<(), String> {
+        let answers = (0..8).map(|_| random.word()).collect();
+        let outcome = rust::run(call, Record::default(), Box::new(Given { answers, used: 0 }), false);
+        self.play(call, &outcome, random)?;
+        check(windows::is_set(pair, call, &outcome), || {
+            format!("the Rust sets another pair: {}", call_line(call, &outcome.record.answers))
+        })
     }
 
     /// On `ch32v4`: the Rust in the port's order, fed the same answers, makes the same record, and its end is the library's

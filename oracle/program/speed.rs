@@ -7,6 +7,7 @@
 //! Counted are the instructions inside the driver: the C library's functions, or the Rust's without the recording.
 
 mod chips;
+#[allow(dead_code)] // The comparison asks more of it.
 mod library;
 
 use std::panic::Location;
