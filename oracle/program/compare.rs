@@ -175,36 +175,45 @@ fn compare_all(seed: u64, calls: u64, entries: &[Entry], chips: &[u8]) {
     );
 }
 
-/// Speed windows, which have no block and no access.
+/// A speed window beside brute force; then `init` with its pair.
+fn compare_window(window: &Window, player: &mut Player, compared: &mut windows::Compared, random: &mut Random) -> Result<(), String> {
+    let found = play::play_window(window)?;
+    compared.add(window, found);
+    for setting in windows::settings(window, found) {
+        player.play_setting(&setting, random)?;
+        compared.add_setting(&setting);
+    }
+    Ok(())
+}
+
 fn compare_windows(seed: u64, count: u64) {
     let (windows, mut player, mut compared) = (Windows::new(seed), Player::default(), windows::Compared::default());
     let began = Instant::now();
     for number in 0..count {
         let (window, mut random) = windows.numbered(number);
-        if let Err(difference) = player.play_window(&window, &mut compared, &mut random) {
-            report_window(&window, &difference);
+        if let Err(difference) = compare_window(&window, &mut player, &mut compared, &mut random) {
+            println!("DIFFERENCE: {}: {difference}", window.text());
+            println!("again: compare window {} {} {}", window.input, window.lowest, window.highest);
+            exit(1);
         }
     }
     check_cases(compared.windows(), compared.text(), compared.is_whole());
     println!("{count} windows, 0 differences, {:.1} s", began.elapsed().as_secs_f64());
 }
 
-fn report_window(window: &Window, difference: &str) -> ! {
-    println!("DIFFERENCE: {}: {difference}", window.text());
-    println!("again: compare window {} {} {}", window.input, window.lowest, window.highest);
-    exit(1);
-}
-
-fn compare_window(window: Window) {
-    let number = windows::number(windows::brute_force(&window));
+fn show_window(window: &Window) {
+    let number = windows::number(windows::brute_force(window));
     println!("{}", window.text());
     println!("brute force   {}", windows::number_text(number));
-    println!("the C library {}", windows::number_text(library::speed_window(&window)));
-    let (mut compared, mut random) = (windows::Compared::default(), Random::of(&[0]));
-    if let Err(difference) = Player::default().play_window(&window, &mut compared, &mut random) {
-        report_window(&window, &difference);
+    println!("the C library {}", windows::number_text(library::speed_window(window)));
+    let (mut player, mut compared, mut random) = (Player::default(), windows::Compared::default(), Random::of(&[0]));
+    match compare_window(window, &mut player, &mut compared, &mut random) {
+        Ok(()) => println!("no difference"),
+        Err(difference) => {
+            println!("DIFFERENCE: {difference}");
+            exit(1);
+        }
     }
-    println!("no difference");
 }
 
 /// How many windows come behind a call of each entry on each chip.
@@ -212,7 +221,7 @@ const WINDOWS_A_TURN: u64 = 4;
 
 /// All entries and chips by turns, up to the first difference.
 fn compare_until(seed: u64, calls: u64) {
-    let (windows, mut compared) = (Windows::new(seed), windows::Compared::default());
+    let windows = Windows::new(seed);
     let mut player = Player::default();
     let mut count = 0u64;
     for number in 0..calls {
@@ -225,14 +234,14 @@ fn compare_until(seed: u64, calls: u64) {
             }
         }
         for place in number * WINDOWS_A_TURN..(number + 1) * WINDOWS_A_TURN {
-            let (window, mut random) = windows.numbered(place);
-            if let Err(difference) = player.play_window(&window, &mut compared, &mut random) {
+            let (window, _) = windows.numbered(place);
+            if let Err(difference) = play::play_window(&window) {
                 println!("found at window {}, behind {count} calls: {}: {difference}", place + 1, window.text());
                 exit(1);
             }
         }
     }
-    println!("NOT FOUND in {count} calls and {} windows", compared.windows());
+    println!("NOT FOUND in {count} calls and {} windows", calls * WINDOWS_A_TURN);
 }
 
 fn replay(seed: u64, entry: Entry, chip: u8, number: u64) {
@@ -294,7 +303,7 @@ fn main() {
             _ => usage(),
         },
         ["window", input, lowest, highest] => match [input, lowest, highest].map(|text| text.parse().ok()) {
-            [Some(input), Some(lowest), Some(highest)] => compare_window(Window::new(input, lowest, highest)),
+            [Some(input), Some(lowest), Some(highest)] => show_window(&Window::new(input, lowest, highest)),
             _ => usage(),
         },
         ["until", seed, calls] => match (number(seed), number(calls)) {

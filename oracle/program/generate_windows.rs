@@ -6,7 +6,7 @@ use crate::windows::Window;
 const MAX: u32 = u32::MAX;
 
 /// Windows at which an answer changes.
-const EDGES: [Window; 57] = [
+const EDGES: [Window; 59] = [
     Window::new(36_000_000, 95_000, 100_000),
     Window::new(36_000_000, 100_000, 100_000),
     Window::new(8_000_000, 100_000, 100_000),
@@ -16,6 +16,9 @@ const EDGES: [Window; 57] = [
     Window::new(36_000_000, 400_000, 400_001),
     Window::new(36_000_000, 400_001, MAX),
     Window::new(36_000_000, 100_000, 400_001),
+    // On ch32v4 `init` refuses the first.
+    Window::new(3_999_999, 95_000, 100_000),
+    Window::new(4_000_000, 95_000, 100_000),
     // Just above what factor 2 has: as both ends, that no pair and that a pair makes; as one end.
     Window::new(36_000_000, 100_001, 100_001),
     Window::new(30_000_300, 100_001, 100_001),

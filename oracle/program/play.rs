@@ -7,7 +7,7 @@ use oracle::random::Random;
 use oracle::rust::{self, end_number, Outcome};
 use oracle::second;
 use oracle::text::{call_line, number_text};
-use oracle::windows::{self, Pair, Window};
+use oracle::windows::{self, Found, Setting, Window};
 use record::{kind, Call, Entry, Given, Record, ENTRIES, WRITE};
 
 use crate::library;
@@ -70,6 +70,17 @@ fn check(holds: bool, text: impl FnOnce() -> String) -> Result<(), String> {
     }
 }
 
+/// Asks the library for a window: it has to return the number that brute force finds.
+pub fn play_window(window: &Window) -> Result<Option<Found>, String> {
+    let found = windows::brute_force(window);
+    let (wanted, number) = (windows::number(found), library::speed_window(window));
+    check(number == wanted, || {
+        let (wanted, number) = (windows::number_text(wanted), windows::number_text(number));
+        format!("brute force {wanted}, the C library {number}")
+    })?;
+    Ok(found)
+}
+
 impl Player {
     pub fn play(&mut self, call: &Call, outcome: &Outcome, random: &mut Random) -> Result<(), String> {
         if let Some(message) = &outcome.panic {
@@ -124,32 +135,13 @@ impl Player {
         check(is_decided, || format!("the flags {:04x} do not decide the C library's end", outcome.flags))
     }
 
-    /// Asks the library for a window: it has to return the number that brute force finds. And `init` has to set that pair.
-    pub fn play_window(&mut self, window: &Window, compared: &mut windows::Compared, random: &mut Random) -> Result<(), String> {
-        let found = windows::brute_force(window);
-        let (wanted, number) = (windows::number(found), library::speed_window(window));
-        check(number == wanted, || {
-            let (wanted, number) = (windows::number_text(wanted), windows::number_text(number));
-            format!("brute force {wanted}, the C library {number}")
-        })?;
-        compared.add(window, found);
-        let settings = found.into_iter().flat_map(|found| (0..4).map(move |chip| (found.pair, chip)));
-        for (pair, chip) in settings {
-            let Some(call) = windows::setting(window, pair, chip) else { continue };
-            self.play_setting(pair, &call, random).map_err(|difference| format!("init on chip {chip}: {difference}"))?;
-            compared.add_setting(&call);
-        }
-        Ok(())
-    }
-
-    /// `init` with a window's pair, on the Rust and by the library.
-    fn play_setting(&mut self, pair: Pair, call: &Call, random: &mut Random) -> Result<(), String> {
-        let answers = (0..8).map(|_| random.word()).collect();
+    /// `init` with a window's pair: by the library as on the Rust, which has to set this very pair.
+    pub fn play_setting(&mut self, setting: &Setting, random: &mut Random) -> Result<(), String> {
+        let (call, answers) = (&setting.call, (0..8).map(|_| random.word()).collect());
         let outcome = rust::run(call, Record::default(), Box::new(Given { answers, used: 0 }), false);
-        self.play(call, &outcome, random)?;
-        check(windows::is_set(pair, call, &outcome), || {
-            format!("the Rust sets another pair: {}", call_line(call, &outcome.record.answers))
-        })
+        let line = || call_line(call, &outcome.record.answers);
+        self.play(call, &outcome, random).map_err(|difference| format!("{difference}: {}", line()))?;
+        check(setting.is_made(&outcome), || format!("the Rust sets another pair: {}", line()))
     }
 
     /// On `ch32v4`: the Rust in the port's order, fed the same answers, makes the same record, and its end is the library's

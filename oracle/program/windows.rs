@@ -17,7 +17,7 @@ pub struct Window {
 
 /// A factor and a divider, which make a speed of input / (factor × divider).
 #[derive(Copy, Clone)]
-pub struct Pair {
+struct Pair {
     factor: u64,
     divider: u64,
 }
@@ -70,7 +70,7 @@ impl Pair {
 /// The pair that is wanted of those looked at so far, and whether one with another factor is as fast.
 #[derive(Copy, Clone)]
 pub struct Found {
-    pub pair: Pair,
+    pair: Pair,
     is_tie: bool,
 }
 
@@ -117,29 +117,44 @@ pub fn number_text(number: u64) -> String {
     format!("{number:016x} (kind {kind} end {end} factor {factor} divider {divider} above {rest:04x})")
 }
 
-/// The call of `init` that sets a pair: its speed rounded up, and 16:9 for factor 25. At input 0 there is none.
-pub fn setting(window: &Window, pair: Pair, chip: u8) -> Option<Call> {
-    let mut call = Call::new(Entry::Init);
-    (call.chip, call.input) = (chip, window.input);
-    call.frequency = (window.input as u64).div_ceil(pair.clocks()) as u32;
-    call.duty = (pair.factor == 25) as u8;
-    (window.input > 0).then_some(call)
+/// The call of `init` that sets a pair on a chip, and what CKCFGR then holds.
+pub struct Setting {
+    pub call: Call,
+    word: u32,
 }
 
-/// On `ch32v4` an input clock below 4 MHz is refused.
-fn is_too_slow(call: &Call) -> bool {
-    call.chip & 2 != 0 && call.input < 4_000_000
-}
-
-/// Whether `init` wrote CKCFGR once, with this divider, F_S for factors 3 and 25, DUTY for 25; or refused with 12.
-pub fn is_set(pair: Pair, call: &Call, outcome: &Outcome) -> bool {
-    let accesses = &outcome.record.accesses;
-    if is_too_slow(call) {
-        return outcome.end == Some(end_number(12, 0)) && accesses.is_empty();
+impl Setting {
+    /// The frequency is the speed rounded up, the duty 16:9 for factor 25. F_S is set for factors 3 and 25, DUTY for 25.
+    fn new(input: u32, pair: Pair, chip: u8) -> Self {
+        let mut call = Call::new(Entry::Init);
+        (call.chip, call.input) = (chip, input);
+        call.frequency = (input as u64).div_ceil(pair.clocks()) as u32;
+        call.duty = (pair.factor == 25) as u8;
+        let word = pair.divider as u32 | ((pair.factor != 2) as u32) << 15 | ((pair.factor == 25) as u32) << 14;
+        Self { call, word }
     }
-    let word = pair.divider as u32 | ((pair.factor != 2) as u32) << 15 | ((pair.factor == 25) as u32) << 14;
-    let writes = accesses.iter().filter(|access| (kind(**access), register(**access)) == (WRITE, CKCFGR));
-    outcome.end == Some(0) && writes.map(|access| value(*access)).eq([word])
+
+    /// On `ch32v4` an input clock below 4 MHz is refused.
+    fn is_too_slow(&self) -> bool {
+        self.call.chip & 2 != 0 && self.call.input < 4_000_000
+    }
+
+    /// Whether `init` wrote CKCFGR once, and so; or refused with 12.
+    pub fn is_made(&self, outcome: &Outcome) -> bool {
+        let accesses = &outcome.record.accesses;
+        if self.is_too_slow() {
+            return outcome.end == Some(end_number(12, 0)) && accesses.is_empty();
+        }
+        let writes = accesses.iter().filter(|access| (kind(**access), register(**access)) == (WRITE, CKCFGR));
+        outcome.end == Some(0) && writes.map(|access| value(*access)).eq([self.word])
+    }
+}
+
+/// The settings of what was found, on every chip. A speed of 0 is not set.
+pub fn settings(window: &Window, found: Option<Found>) -> Vec<Setting> {
+    let found = found.filter(|_| window.input > 0);
+    let on_chips = found.into_iter().flat_map(|found| (0..4).map(move |chip| (found.pair, chip)));
+    on_chips.map(|(pair, chip)| Setting::new(window.input, pair, chip)).collect()
 }
 
 /// How often each case was compared.
@@ -169,9 +184,9 @@ impl Compared {
         self.of_input_0 += (window.input == 0) as u64;
     }
 
-    pub fn add_setting(&mut self, call: &Call) {
+    pub fn add_setting(&mut self, setting: &Setting) {
         self.settings += 1;
-        self.too_slow += is_too_slow(call) as u64;
+        self.too_slow += setting.is_too_slow() as u64;
     }
 
     pub fn windows(&self) -> u64 {
