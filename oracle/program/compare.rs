@@ -3,7 +3,7 @@
 //!     compare SEED CALLS [ENTRY [CHIP]]    random calls, CALLS of each entry on each chip
 //!     compare windows SEED COUNT    speed windows, beside brute force, and what `init` makes of the pairs
 //!     compare window INPUT LOWEST HIGHEST    one of them
-//!     compare until SEED CALLS    the same calls, all entries and chips by turns, with windows in between, up to the first difference
+//!     compare until SEED CALLS    calls of all entries and chips and windows, by turns, up to the first difference
 //!     compare replay SEED ENTRY CHIP NUMBER    one of them again, with its whole record
 //!     compare sample FILE    the stored sample
 //!     compare lines    calls from standard input, one line each (the form in which differences are printed)
@@ -176,7 +176,12 @@ fn compare_all(seed: u64, calls: u64, entries: &[Entry], chips: &[u8]) {
 }
 
 /// A speed window beside brute force; then `init` with its pair.
-fn compare_window(window: &Window, player: &mut Player, compared: &mut windows::Compared, random: &mut Random) -> Result<(), String> {
+fn compare_window(
+    window: &Window,
+    player: &mut Player,
+    compared: &mut windows::Compared,
+    random: &mut Random,
+) -> Result<(), String> {
     let found = play::play_window(window)?;
     compared.add(window, found);
     for setting in windows::settings(window, found) {
@@ -219,7 +224,7 @@ fn show_window(window: &Window) {
 /// How many windows come behind a call of each entry on each chip.
 const WINDOWS_A_TURN: u64 = 4;
 
-/// All entries and chips by turns, up to the first difference.
+/// All entries and chips by turns, and windows, up to the first difference. Here no window is set by `init`: that is for its calls.
 fn compare_until(seed: u64, calls: u64) {
     let windows = Windows::new(seed);
     let mut player = Player::default();

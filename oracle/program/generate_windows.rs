@@ -74,7 +74,7 @@ const EDGES: [Window; 59] = [
     Window::new(36_000_000, 1, 4_396),
 ];
 
-/// Dividers at their limits and one more or less, with a speed: for each factor, as far as the input clock goes; and equals of 3 and 25.
+/// Factor, divider and speed: dividers at their limits, one more and one less, as far as the input clock goes; equals of 3 and 25.
 const LIMITS: [(u32, u32, u32); 34] = [
     (2, 3, 100_000),
     (2, 4, 100_000),

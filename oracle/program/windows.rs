@@ -57,7 +57,7 @@ impl Pair {
         window.lowest as u64 * clocks <= input && input <= window.highest as u64 * clocks
     }
 
-    /// Whether its speed is less than, equal to or greater than the other's: input / ours beside input / theirs, both times both.
+    /// Its speed beside the other's: input / ours and input / theirs, each times ours times theirs.
     fn compared(self, other: Pair, input: u64) -> Ordering {
         (input * other.clocks()).cmp(&(input * self.clocks()))
     }
@@ -139,7 +139,7 @@ impl Setting {
         self.call.chip & 2 != 0 && self.call.input < 4_000_000
     }
 
-    /// Whether `init` wrote CKCFGR once, and so; or refused with 12.
+    /// Whether `init` wrote this word to CKCFGR, once; or refused with 12.
     pub fn is_made(&self, outcome: &Outcome) -> bool {
         let accesses = &outcome.record.accesses;
         if self.is_too_slow() {
@@ -199,12 +199,13 @@ impl Compared {
     }
 
     pub fn text(&self) -> String {
-        let Self { factors: [two, three, twenty_five], refused, ties, upside_down, one_speed, of_input_0, settings, too_slow } = self;
-        format!(
-            "{} windows by brute force: factor 2 {two}, 3 {three}, 25 {twenty_five}, 20 {refused}; ties of 3 and 25 {ties}, \
-             upside down {upside_down}, of one speed that exists {one_speed}, input 0 with a pair {of_input_0}; \
-             {settings} settings on the Rust, {too_slow} of them refused with 12",
-            self.windows()
-        )
+        let [two, three, twenty_five] = self.factors;
+        let pairs = format!("factor 2 {two}, 3 {three}, 25 {twenty_five}, 20 {}", self.refused);
+        let cases = format!(
+            "ties of 3 and 25 {}, upside down {}, of one speed that exists {}, input 0 with a pair {}",
+            self.ties, self.upside_down, self.one_speed, self.of_input_0
+        );
+        let settings = format!("{} settings on the Rust, {} of them refused with 12", self.settings, self.too_slow);
+        format!("{} windows by brute force: {pairs}; {cases}; {settings}", self.windows())
     }
 }
