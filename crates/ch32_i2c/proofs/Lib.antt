@@ -29,4 +29,5 @@ pub mod Words
 pub mod RunsRecord
 pub mod Demands
 pub mod Edges
+pub mod SpeedWindow
 pub mod Examples

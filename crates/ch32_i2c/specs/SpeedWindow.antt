@@ -1,12 +1,14 @@
 -- The speed window as C asks for it, and what the demands are for it. Which pairs are right and best: speed_window/specs/Pairs.antt.
 use mathlib.Core.Path.{_≡_}
 use mathlib.Core.Bool.{cond}
-use mathlib.Core.List.{List, [], List·Memᴰ, map}
+use mathlib.Core.List.{List, [], _∷_, _++_}
 use mathlib.Core.Option.{some}
 use Prim.Native.Nat.{ℕ, _<_, _≤_}
+use lib.Dec.{eqb}
 use lib.ListN.{length}
 use Rattle.registers.specs.declared.register.Register.{Register}
-use Rattle.registers.specs.declared.register.Register.the-variants.{Ctlr1, Ctlr2, Oaddr1, Oaddr2, Datar, Star1, Star2, Ckcfgr, Rtr}
+use Rattle.registers.specs.declared.register.Register.the-variants.{Ckcfgr}
+use Rattle.registers.specs.Numbers.{registerNumber}
 use Rattle.registers.specs.Bits.{DUTY, «F_S»}
 use Rattle.registers.specs.Fields.{CCR}
 use Rattle.registers.specs.Word.{putBit, putField}
@@ -16,7 +18,7 @@ use Rattle.access.specs.declared.ending.Error.the-variants.{NoSuchSpeed}
 use Rattle.access.specs.declared.next.Next.{Next}
 use Rattle.access.specs.declared.next.Next.the-variants as next
 use Rattle.access.specs.Endings.{returnedBoth, failed}
-use Rattle.access.specs.Numbers.{nextNumber, EndHoldsWords}
+use Rattle.access.specs.Numbers.{nextNumber}
 use Rattle.block.specs.Bytes32.{blockSize}
 use Rattle.timing.specs.declared.settings.Timed.the-variants as timed
 use Rattle.timing.specs.Rust.{timing}
@@ -28,8 +30,7 @@ use Rattle.speed_window.specs.Formula.{pair}
 use Rattle.speed_window.specs.Setting.{frequencyOf, isFast, is16-9, dutyOf, Sets, PairsAreSet}
 use Rattle.images.specs.Numbers.{chipOf}
 use Rattle.ch32_i2c.specs.Fed.{Seen}
-use Rattle.ch32_i2c.specs.Manual.{Rule, Keeps}
-use Rattle.ch32_i2c.specs.Demands.{Call, init, refusalOf, Accepted, recordAfter, struckAfter}
+use Rattle.ch32_i2c.specs.Demands.{Call, init, refusalOf, Accepted, recordAfter}
 
 -- the end: 0 with the divider and the factor, or 20
 abbrev pub endOf : Found → Ending
@@ -44,7 +45,6 @@ pub record Answers (input lowest highest n : ℕ) : Type 0 where
   pub answer : Found
   pub finds : Finds input (Right input lowest highest) answer
   pub number : n ≡ endNumber (endOf answer)
-  pub words : EndHoldsWords (endOf answer)
 
 -- ---- the call of `init` that sets a pair
 
@@ -58,22 +58,21 @@ setting chip input p = init chip input (frequencyOf input p) (dutyNumber p)
 abbrev pub pairWord : Pair → ℕ
 pairWord p = putField CCR (p .divider) (putBit DUTY (is16-9 p) (putBit «F_S» (isFast p) 0))
 
-abbrev pub onlyPair : Pair → Rule
-onlyPair p Ctlr1 v = Unit {0}
-onlyPair p Ctlr2 v = Unit {0}
-onlyPair p Oaddr1 v = Unit {0}
-onlyPair p Oaddr2 v = Unit {0}
-onlyPair p Datar v = Unit {0}
-onlyPair p Star1 v = Unit {0}
-onlyPair p Star2 v = Unit {0}
-onlyPair p Ckcfgr v = v ≡ pairWord p
-onlyPair p Rtr v = Unit {0}
+-- the words that a record has for a register, in order
+abbrev pub wordTo : Register → Next → List ℕ
+wordTo r (next.Read x) = []
+wordTo r (next.Write x v) = cond (eqb (registerNumber r) (registerNumber x)) (v ∷ []) []
+wordTo r next.Clock = []
+wordTo r (next.End e) = []
 
--- it is accepted; once nine answers came the word was handed out; and no other is written to CKCFGR
+abbrev pub wordsTo : Register → List Seen → List ℕ
+wordsTo r [] = []
+wordsTo r (x ∷ xs) = wordTo r (x .next) ++ wordsTo r xs
+
+-- it is accepted, and once nine answers came it has written one word to CKCFGR: this
 pub record InitWrites (chip input : ℕ) (p : Pair) (block : List ℕ) : Type 0 where
   pub accepted : Accepted (setting chip input p) block []
-  pub written : (answers : List ℕ) → 9 ≤ length answers → List·Memᴰ (next.Write Ckcfgr (pairWord p)) (map (λ (x : Seen). x .next) (recordAfter (setting chip input p) block [] answers))
-  pub only : (answers : List ℕ) → Keeps (onlyPair p) (struckAfter (setting chip input p) block [] answers)
+  pub written : (answers : List ℕ) → 9 ≤ length answers → wordsTo Ckcfgr (recordAfter (setting chip input p) block [] answers) ≡ pairWord p ∷ []
 
 -- ---- the demands
 

@@ -15,7 +15,7 @@ pub one-best : OneBest
 one-best input P p q a b = preferred.one-best p q a b
 
 -- no speed is inside
-nothing-inside : (input lowest highest : ℕ) → highest < lowest → (p : Pair) → Right input lowest highest p → ⊥
+pub nothing-inside : (input lowest highest : ℕ) → highest < lowest → (p : Pair) → Right input lowest highest p → ⊥
 nothing-inside input lowest highest h p r =
     let more : highest * clocks p < lowest * clocks p = mul-lt-mul-of-pos-right h (clocks-pos (r .allowed)) in
     let a = r .not-slower in
