@@ -31,3 +31,4 @@ pub mod Demands
 pub mod Edges
 pub mod SpeedWindow
 pub mod Examples
+pub mod WindowExamples
