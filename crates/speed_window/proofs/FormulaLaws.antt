@@ -2,17 +2,17 @@
 -- Assumes nothing.
 use Prim.Native.Nat.{ℕ, _*_, _<_, min}
 use mathlib.Core.Path.{_≡_, refl, ap, _∙_}
-use mathlib.Core.Bool.{Bool, true, false, cond, _&&_, _||_}
+use mathlib.Core.Bool.{Bool, true, false, cond, _&&_}
 use native.Mathlib.Nat.{mul-pos}
 use native.Mathlib.Omega.{arith}
-use lib.Dec.{eqb, ltb, leb, lit<}
+use lib.Dec.{eqb, lit<}
 use borrow.Author.Tests.{eqb-false, lt-leb}
 use Rattle.access.proofs.Choice.{chosen, when-true, when-false}
 use Rattle.timing.specs.Document.{Least, Enough}
 use Rattle.timing.proofs.LeastLaws.{is-formula}
 use Rattle.speed_window.specs.declared.pair.Found.{Found}
 use Rattle.speed_window.specs.declared.pair.Found.the-variants.{At, Nothing}
-use Rattle.speed_window.specs.Formula.{pair, within, isRight, fastestOf}
+use Rattle.speed_window.specs.Formula.{pair, within, isInside, isRight, fastestOf}
 
 -- a divider that is too large is not right, whatever the other tests say
 last-false : (a : Bool) {b : Bool} → b ≡ false → a && b ≡ false
@@ -41,6 +41,4 @@ module _ (factor floor top input lowest highest : ℕ) (f : 0 < factor) (t : 0 <
     wrong-fastest r = when-false _ _ r ∙ is-fastest
 
     pub too-large : 4095 < c → Nothing ≡ fastestOf factor floor top input lowest highest
-    too-large h =
-        let n = factor * c in
-        wrong-fastest (last-false ((leb (lowest * n) input && leb input (highest * n)) && (eqb factor 2 || ltb (100_000 * n) input)) (lt-leb c 4095 h))
+    too-large h = wrong-fastest (last-false (isInside input lowest highest (pair factor c)) (lt-leb c 4095 h))

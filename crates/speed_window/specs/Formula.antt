@@ -15,10 +15,13 @@ pair factor divider = record { factor = factor; divider = divider }
 abbrev pub within : ℕ → ℕ → ℕ
 within highest top = cond (eqb highest 0) 1 (min highest top)
 
--- what the least divider that is slow enough leaves to be tested
+-- what the least divider that is slow enough leaves to be tested: its speed is inside the window, and of factors 3 and 25 above 100,000; and it
+-- is not too large
+abbrev pub isInside : ℕ → ℕ → ℕ → Pair → Bool
+isInside input lowest highest p = (leb (lowest * clocks p) input && leb input (highest * clocks p)) && (eqb (p .factor) 2 || ltb (100_000 * clocks p) input)
+
 abbrev pub isRight : ℕ → ℕ → ℕ → Pair → Bool
-isRight input lowest highest p =
-    ((leb (lowest * clocks p) input && leb input (highest * clocks p)) && (eqb (p .factor) 2 || ltb (100_000 * clocks p) input)) && leb (p .divider) 4095
+isRight input lowest highest p = isInside input lowest highest p && leb (p .divider) 4095
 
 module _ (factor floor top input lowest highest : ℕ) where
   abbrev pub leastPair : Pair
