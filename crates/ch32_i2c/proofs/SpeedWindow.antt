@@ -1,13 +1,12 @@
 -- The speed window: what the demands are for it.
 -- Assumes nothing.
 use mathlib.Core.Path.{_≡_, refl, sym, ap, subst, _∙_}
-use mathlib.Core.Bool.{Bool, true, false, cond, not, _&&_, _||_}
-use mathlib.Core.List.{List, [], _∷_, List·Memᴰ, map}
-use mathlib.Core.Option.{Option, none, some}
+use mathlib.Core.Bool.{Bool, true, false, cond}
+use mathlib.Core.List.{List, [], _∷_}
 use mathlib.Core.Logic.{⊎-elim}
 use Prim.Native.Nat.{ℕ, suc, _<_, _≤_}
 use native.Mathlib.Omega.{arith}
-use lib.Dec.{eqb, ltb}
+use lib.Dec.{ltb}
 use lib.ListN.{length}
 use borrow.Author.Tests.{le-ltb, eq-eqb}
 use Rattle.registers.specs.declared.chip.Chip.{Chip}
@@ -16,14 +15,12 @@ use Rattle.registers.specs.Bits.{PE}
 use Rattle.registers.specs.Fields.{TRISE}
 use Rattle.registers.specs.Word.{putBit, putField}
 use Rattle.access.specs.declared.ending.Ending.{Ending}
-use Rattle.access.specs.declared.ending.Error.{Error}
 use Rattle.access.specs.declared.ending.Error.the-variants.{NoSuchSpeed}
-use Rattle.access.specs.declared.next.Next.{Next}
 use Rattle.access.specs.declared.next.Next.the-variants as next
 use Rattle.access.specs.Endings.{endingValue, endingExtra, returnedBoth, failed, done}
 use Rattle.access.specs.Program.{Program, finish, access, read, write}
 use Rattle.access.specs.Record.{shownOf}
-use Rattle.access.specs.Numbers.{nextNumber, EndHoldsWords}
+use Rattle.access.specs.Numbers.{EndHoldsWords}
 use Rattle.access.proofs.NumberLaws.{number-injective}
 use Rattle.speed_window.specs.declared.pair.Pair.{Pair}
 use Rattle.speed_window.specs.declared.pair.Found.{Found}

@@ -1,15 +1,13 @@
 -- The claims of the speed window speak of something: answers and settings, by computation.
 -- Assumes nothing.
 use mathlib.Core.Path.{_≡_, refl}
-use mathlib.Core.List.{List, [], _∷_}
+use mathlib.Core.List.{[], _∷_}
 use mathlib.Core.Option.{some}
-use Prim.Native.Nat.{ℕ}
 use lib.Dec.{lit<}
 use lib.ListN.{replicate}
 use Rattle.registers.specs.Word.{putBit, putField}
 use Rattle.access.specs.declared.ending.Error.the-variants.{InputTooSlow}
 use Rattle.timing.specs.Rust.{timing}
-use Rattle.speed_window.specs.declared.pair.Pair.{Pair}
 use Rattle.speed_window.specs.declared.pair.Found.the-variants.{At, Nothing}
 use Rattle.speed_window.specs.Formula.{pair, fastestOf, window}
 use Rattle.speed_window.specs.Setting.{are-of, Sets}

@@ -1,14 +1,14 @@
 -- The claims of specs/Claims.antt.
 -- Assumes nothing.
 use Prim.Native.Nat.{ℕ, _*_, _<_}
-use mathlib.Core.Logic.{⊎-elim}
-use native.Mathlib.Nat.{mul-lt-mul-of-pos-right, mul-pos}
+use native.Mathlib.Nat.{mul-lt-mul-of-pos-right}
 use native.Mathlib.Omega.{arith}
 use Rattle.speed_window.specs.declared.pair.Pair.{Pair}
-use Rattle.speed_window.specs.Pairs.{clocks, Allowed, standard, fast, Right, nothing}
+use Rattle.speed_window.specs.Pairs.{clocks, Right, nothing}
 use Rattle.speed_window.specs.Formula.{window}
 use Rattle.speed_window.specs.Claims.{OneBest, OneAnswer}
 use Rattle.speed_window.proofs.PreferredLaws as preferred
+use Rattle.speed_window.proofs.PairLaws.{clocks-pos}
 use Rattle.speed_window.proofs.WindowLaws.{window-finds}
 
 pub one-best : OneBest
@@ -17,14 +17,10 @@ one-best input P p q a b = preferred.one-best p q a b
 -- no speed is inside
 pub nothing-inside : (input lowest highest : ℕ) → highest < lowest → (p : Pair) → Right input lowest highest p → ⊥
 nothing-inside input lowest highest h p r =
-    let more : highest * clocks p < lowest * clocks p = mul-lt-mul-of-pos-right h (clocks-pos (r .allowed)) in
+    let more : highest * clocks p < lowest * clocks p = mul-lt-mul-of-pos-right h (clocks-pos p (r .allowed)) in
     let a = r .not-slower in
     let b = r .not-faster in
     omega arith
-  where
-    clocks-pos : Allowed input p → 0 < clocks p
-    clocks-pos (standard e a b c) = mul-pos (omega arith) (omega arith)
-    clocks-pos (fast e a b c d) = mul-pos (⊎-elim (λ h. omega arith) (λ h. omega arith) e) (omega arith)
 
 pub one-answer : OneAnswer
 one-answer = record {

@@ -1,6 +1,6 @@
 -- Division rounded up: the least number of parts that reach.
 -- Assumes nothing.
-use Prim.Native.Nat.{ℕ, _+_, _*_, _<_, _≤_, max}
+use Prim.Native.Nat.{ℕ, _*_, _<_, _≤_, max}
 use mathlib.Core.Path.{_≡_, subst}
 use native.Mathlib.Nat.{lt-of-lt-of-le, lt-of-mul-lt-mul-right}
 use native.Mathlib.Decide.{decLe}

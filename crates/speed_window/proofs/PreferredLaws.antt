@@ -1,13 +1,13 @@
 -- The order of pairs: it is one, so that at most one pair is best, and there is one answer.
 -- Assumes nothing.
-use Prim.Native.Nat.{ℕ, _*_, _<_, _≤_}
+use Prim.Native.Nat.{ℕ}
 use mathlib.Core.Path.{_≡_, refl, ap}
 use native.Mathlib.Nat.{le-antisymm}
 use native.Mathlib.Omega.{arith}
 use Rattle.speed_window.specs.declared.pair.Pair.{Pair}
 use Rattle.speed_window.specs.declared.pair.Found.{Found}
 use Rattle.speed_window.specs.declared.pair.Found.the-variants.{At, Nothing}
-use Rattle.speed_window.specs.Pairs.{clocks, Preferred, faster, smaller-factor, smaller-divider, Best, Finds, found, nothing}
+use Rattle.speed_window.specs.Pairs.{Preferred, faster, smaller-factor, smaller-divider, Best, Finds, found, nothing}
 
 module _ {input : ℕ} where
   pub preferred-trans : {p q r : Pair} → Preferred input p q → Preferred input q r → Preferred input p r

@@ -2,113 +2,32 @@
 -- Assumes nothing.
 use Prim.Native.Nat.{ℕ, _+_, _*_, _-_, _/_, _<_, _≤_}
 use mathlib.Core.Path.{_≡_, refl, sym, ap, subst, _∙_}
-use mathlib.Core.Bool.{Bool, true, false, cond, not, _&&_, _||_, true≢false}
-use mathlib.Core.Logic.{_⊎_, inl, inr, ⊎-elim}
-use native.Mathlib.Nat.{le-trans, lt-of-le-of-lt, lt-of-lt-of-le, mul-le-mul-left, mul-le-mul-right, mul-pos, mul-lt-mul-of-pos-left}
+use mathlib.Core.Bool.{Bool, true, false, not, _&&_, _||_, true≢false}
+use native.Mathlib.Nat.{le-trans, mul-le-mul-left, mul-le-mul-right}
 use native.Mathlib.Decide.{decLe}
 use native.Mathlib.Omega.{arith}
-use lib.Dec.{eqb, ltb, leb, lit<}
-use borrow.Author.Tests.{ltb-true, lt-ltb, le-ltb, le-leb, lt-leb}
+use lib.Dec.{eqb, ltb, leb}
+use borrow.Author.Tests.{ltb-true, lt-ltb, le-leb, lt-leb}
 use Rattle.registers.specs.declared.chip.Chip.{Chip}
 use Rattle.access.specs.declared.ending.Error.{Error}
-use Rattle.access.specs.declared.ending.Error.the-variants.{InputTooSlow, InvalidFrequency}
+use Rattle.access.specs.declared.ending.Error.the-variants.{InputTooSlow}
 use Rattle.access.proofs.Choice.{both-true}
 use Rattle.timing.specs.declared.settings.Duty.{Duty}
 use Rattle.timing.specs.declared.settings.Timed.{Timed}
 use Rattle.timing.specs.declared.settings.Timed.the-variants as timed
-use Rattle.timing.specs.declared.settings.Duty.the-variants.{«Duty2_1», «Duty16_9»}
 use Rattle.timing.specs.Document.{Least, Enough}
 use Rattle.timing.specs.Document as document
-use Rattle.timing.specs.Rust.{div-ceil, sameDuty, factorOf, floorOf, timing}
+use Rattle.timing.specs.Rust.{div-ceil, timing}
 use Rattle.timing.proofs.TimingLaws as timingLaws
 use Rattle.timing.proofs.Documented.{documented}
 use Rattle.speed_window.specs.declared.pair.Pair.{Pair}
-use Rattle.speed_window.specs.Pairs.{clocks, Right, Preferred, faster, smaller-factor, smaller-divider, Best}
+use Rattle.speed_window.specs.Pairs.{Right, Preferred, faster, smaller-factor, smaller-divider, Best}
 use Rattle.speed_window.specs.Formula.{pair}
-use Rattle.speed_window.specs.Setting.{frequencyOf, isFast, is16-9, dutyOf, AreOf, are-of, Sets, EnoughFor}
-use Rattle.speed_window.proofs.FastestLaws.{Limits, HasLimits, standard-limits, fast-limits}
+use Rattle.speed_window.specs.Setting.{dutyOf, AreOf, are-of, Sets, EnoughFor}
+use Rattle.speed_window.proofs.PairLaws.{clocks-pos}
+use Rattle.speed_window.proofs.LimitLaws.{fewer-kind}
+use Rattle.speed_window.proofs.ModeLaws.{Mode, LimitsOf}
 use Rattle.speed_window.proofs.CeilingLaws.{ceil-reaches, ceil-least, ceil-short, ceil-above}
-
--- a factor as `timing` has it: the mode, and the duty
-pub record Mode : Type 0 where
-  pub factor : ℕ
-  pub floor : ℕ
-  pub top : ℕ
-  pub quick : Bool
-  pub duty : Duty
-  pub limits : HasLimits factor floor top
-  pub factor-is : factorOf quick duty ≡ factor
-  pub floor-is : floorOf quick ≡ floor
-  pub duty-told : cond (eqb factor 25) «Duty16_9» «Duty2_1» ≡ duty
-  pub duty-is : (quick && sameDuty duty «Duty16_9») ≡ eqb factor 25
-  pub mode-is : not (eqb factor 2) ≡ quick
-  pub top-small : top ≤ 400_000
-  -- the factor is told by mode and duty
-  pub told : (other : Duty) → (quick && document.is16-9 other) ≡ eqb factor 25 → document.factor quick other ≡ factor
-  -- a frequency that is enough, and not above the top, is of this mode
-  pub of-mode : (frequency : ℕ) → frequency ≤ top → (eqb factor 2 || ltb 100_000 frequency) ≡ true → ltb 100_000 frequency ≡ quick
-
-unfoldable pub standard-mode : Mode
-standard-mode = record {
-  factor = 2;
-  floor = 4;
-  top = 100_000;
-  quick = false;
-  duty = «Duty2_1»;
-  limits = standard-limits;
-  factor-is = refl;
-  floor-is = refl;
-  duty-told = refl;
-  duty-is = refl;
-  mode-is = refl;
-  top-small = omega arith;
-  told = λ other e. refl;
-  of-mode = λ n h k. le-ltb 100_000 n h;
-}
-
-unfoldable pub fast-mode : Mode
-fast-mode = record {
-  factor = 3;
-  floor = 1;
-  top = 400_000;
-  quick = true;
-  duty = «Duty2_1»;
-  limits = fast-limits 3 (inl refl);
-  factor-is = refl;
-  floor-is = refl;
-  duty-told = refl;
-  duty-is = refl;
-  mode-is = refl;
-  top-small = omega arith;
-  told = told;
-  of-mode = λ n h k. k;
-}
-  where
-    told : (other : Duty) → document.is16-9 other ≡ false → document.factor true other ≡ 3
-    told «Duty2_1» e = refl
-    told «Duty16_9» e = absurd (true≢false e)
-
-unfoldable pub fast-16-9-mode : Mode
-fast-16-9-mode = record {
-  factor = 25;
-  floor = 1;
-  top = 400_000;
-  quick = true;
-  duty = «Duty16_9»;
-  limits = fast-limits 25 (inr refl);
-  factor-is = refl;
-  floor-is = refl;
-  duty-told = refl;
-  duty-is = refl;
-  mode-is = refl;
-  top-small = omega arith;
-  told = told;
-  of-mode = λ n h k. k;
-}
-  where
-    told : (other : Duty) → document.is16-9 other ≡ true → document.factor true other ≡ 25
-    told «Duty2_1» e = absurd (true≢false (sym e))
-    told «Duty16_9» e = refl
 
 -- the chip takes this input clock
 enough-passes : (chip : Chip) (input : ℕ) → EnoughFor chip input → (not (chip .ch32v4) || leb 4 (input / 1_000_000)) ≡ true
@@ -145,33 +64,25 @@ taken-enough chip input n duty p h v = go (decLe 4_000_000 input)
     go (yes g) = g
     go (no g) = absurd (by-frequency (timingLaws.allowed chip input n duty) refl (omega arith))
 
-module _ (m : Mode) where
-  abbrev pub LimitsOf : ℕ → ℕ → Type 0
-  LimitsOf input d = Limits (m .factor) (m .floor) (m .top) input d
-
 module _ (m : Mode) (chip : Chip) (input d : ℕ) (l : LimitsOf m input d) (pos : 0 < input) where
   abbrev frequency : ℕ
   frequency = div-ceil input (m .factor * d)
 
-  clocks-pos : 0 < m .factor * d
-  clocks-pos = go (decLe (m .factor * d) 0)
-    where
-      go : Dec (m .factor * d ≤ 0) → 0 < m .factor * d
-      go (yes z) = let t : m .top * (m .factor * d) ≤ m .top * 0 = mul-le-mul-left (m .top) z in let s = l .slow in absurd (omega arith)
-      go (no z) = omega arith
+  some-clocks : 0 < m .factor * d
+  some-clocks = clocks-pos (pair (m .factor) d) (m .limits .met input d l)
 
   frequency-pos : 0 < frequency
-  frequency-pos = ceil-above input (m .factor * d) clocks-pos 0 (omega arith)
+  frequency-pos = ceil-above input (m .factor * d) some-clocks 0 (omega arith)
 
   frequency-small : frequency ≤ m .top
-  frequency-small = ceil-least input (m .factor * d) clocks-pos (m .top) (l .slow)
+  frequency-small = ceil-least input (m .factor * d) some-clocks (m .top) (l .slow)
 
   of-kind : (eqb (m .factor) 2 || ltb 100_000 frequency) ≡ true
   of-kind = go (eqb (m .factor) 2) (l .kind)
     where
       go : (b : Bool) → (b || ltb (100_000 * (m .factor * d)) input) ≡ true → (b || ltb 100_000 frequency) ≡ true
       go true k = refl
-      go false k = lt-ltb 100_000 frequency (ceil-above input (m .factor * d) clocks-pos 100_000 (ltb-true _ _ k))
+      go false k = lt-ltb 100_000 frequency (ceil-above input (m .factor * d) some-clocks 100_000 (ltb-true _ _ k))
 
   mode : ltb 100_000 frequency ≡ m .quick
   mode = m .of-mode frequency frequency-small of-kind
@@ -188,33 +99,34 @@ module _ (m : Mode) (chip : Chip) (input d : ℕ) (l : LimitsOf m input d) (pos 
       (are-of refl (mode ∙ sym (m .mode-is)) (rw mode (m .duty-is))))
     where
       reached : input ≤ frequency * (m .factor * d)
-      reached = ceil-reaches input (m .factor * d) clocks-pos
+      reached = ceil-reaches input (m .factor * d) some-clocks
 
       chosen : Least (Enough input (frequency * m .factor) (m .floor)) d
       chosen = record { holds = record { reaches = omega (arith, reached); allowed = l .low }; least = least }
 
-  -- at more than 100,000 none would: the frequency is above every divider
-  pub fast-sets : m .quick ≡ true → EnoughFor chip input → Sets chip input (pair (m .factor) d)
-  fast-sets q enough = sets-by enough (λ e h. go e h (decLe d e))
+  -- where the divider is not above the frequency, one less would not reach
+  pub large-sets : d ≤ frequency → EnoughFor chip input → Sets chip input (pair (m .factor) d)
+  large-sets above enough = sets-by enough (λ e h. go e h (decLe d e))
     where
-      above : 100_000 < frequency
-      above = ltb-true _ _ (mode ∙ q)
-
       short : (frequency - 1) * (m .factor * d) < input
-      short = ceil-short input (m .factor * d) clocks-pos (frequency - 1) (omega (arith, above))
+      short = ceil-short input (m .factor * d) some-clocks (frequency - 1) (omega (arith, frequency-pos))
 
       go : (e : ℕ) → Enough input (frequency * m .factor) (m .floor) e → Dec (d ≤ e) → d ≤ e
       go e h (yes g) = g
       go e h (no g) =
-          let one : frequency * (m .factor * d) ≤ (frequency - 1 + 1) * (m .factor * d) = mul-le-mul-right (m .factor * d) (omega (arith, above)) in
+          let one : frequency * (m .factor * d) ≤ (frequency - 1 + 1) * (m .factor * d) = mul-le-mul-right (m .factor * d) (omega (arith, frequency-pos)) in
           let next : (e + 1) * (frequency * m .factor) ≤ d * (frequency * m .factor) = mul-le-mul-right (frequency * m .factor) (omega arith) in
-          let large : m .factor * d ≤ m .factor * frequency = mul-le-mul-left (m .factor) (le-trans (l .high) (omega (arith, above))) in
+          let large : m .factor * d ≤ m .factor * frequency = mul-le-mul-left (m .factor) above in
           let reached = h .reaches in
           absurd (omega (arith, short))
 
+  -- at more than 100,000 it never is
+  pub fast-sets : m .quick ≡ true → EnoughFor chip input → Sets chip input (pair (m .factor) d)
+  fast-sets q enough = let f : 100_000 < frequency = ltb-true _ _ (mode ∙ q) in large-sets (le-trans (l .high) (omega arith)) enough
+
   module _ (lowest highest : ℕ) (b : Best input (Right input lowest highest) (pair (m .factor) d)) where
     slow-enough : frequency ≤ highest
-    slow-enough = ceil-least input (m .factor * d) clocks-pos highest (b .holds .not-faster)
+    slow-enough = ceil-least input (m .factor * d) some-clocks highest (b .holds .not-faster)
 
     -- beside the best pair no smaller divider would do: it would be right, and faster
     module _ (e : ℕ) (h : Enough input (frequency * m .factor) (m .floor) e) (less : e < d) where
@@ -224,15 +136,11 @@ module _ (m : Mode) (chip : Chip) (input d : ℕ) (l : LimitsOf m input d) (pos 
       up-to : (n : ℕ) → frequency ≤ n → input ≤ n * (m .factor * e)
       up-to n g = let t : frequency * (m .factor * e) ≤ n * (m .factor * e) = mul-le-mul-right (m .factor * e) g in let r = h .reaches in omega arith
 
-      kind : (q : Bool) → (q || ltb (100_000 * (m .factor * d)) input) ≡ true → (q || ltb (100_000 * (m .factor * e)) input) ≡ true
-      kind true k = refl
-      kind false k = lt-ltb _ _ (lt-of-le-of-lt (mul-le-mul-left 100_000 fewer) (ltb-true _ _ k))
-
       right : Right input lowest highest (pair (m .factor) e)
       right = record {
         not-slower = le-trans (mul-le-mul-left lowest fewer) (b .holds .not-slower);
         not-faster = up-to highest slow-enough;
-        allowed = m .limits .met input e (record { low = h .allowed; high = le-trans (omega arith) (l .high); slow = up-to (m .top) frequency-small; kind = kind (eqb (m .factor) 2) (l .kind) });
+        allowed = m .limits .met input e (record { low = h .allowed; high = le-trans (omega arith) (l .high); slow = up-to (m .top) frequency-small; kind = fewer-kind (m .factor) input fewer (l .kind) });
       }
 
       never : Preferred input (pair (m .factor) d) (pair (m .factor) e) → ⊥
@@ -259,7 +167,7 @@ module _ (m : Mode) (chip : Chip) (input d : ℕ) (l : LimitsOf m input d) (pos 
       factor-was = rw quick-is (m .told other (rw (← quick-is) (sym (doc .duty-bit) ∙ c)))
 
       lower : frequency ≤ n
-      lower = let r : input ≤ d * m .factor * n = rw (a, factor-was) at (doc .divider .holds .reaches) in ceil-least input (m .factor * d) clocks-pos n (omega arith)
+      lower = let r : input ≤ d * m .factor * n = rw (a, factor-was) at (doc .divider .holds .reaches) in ceil-least input (m .factor * d) some-clocks n (omega arith)
 
       reaches : input ≤ e * m .factor * n
       reaches = let more : frequency * (e * m .factor) ≤ n * (e * m .factor) = mul-le-mul-right (e * m .factor) lower in let r = h .reaches in omega arith

@@ -1,8 +1,8 @@
 -- The best pair of all factors is the formula's.
 -- Assumes nothing.
 use Prim.Native.Nat.{ℕ, _*_, _<_, _≤_}
-use mathlib.Core.Path.{_≡_, refl, subst}
-use mathlib.Core.Bool.{Bool, true, false, cond}
+use mathlib.Core.Path.{_≡_, refl}
+use mathlib.Core.Bool.{true, false}
 use mathlib.Core.Logic.{_⊎_, inl, inr, ⊎-elim}
 use native.Mathlib.Nat.{mul-le-mul-left, mul-lt-mul-of-pos-left}
 use native.Mathlib.Decide.{decLe}
@@ -13,10 +13,12 @@ use Rattle.access.proofs.Choice.{chosen}
 use Rattle.speed_window.specs.declared.pair.Pair.{Pair}
 use Rattle.speed_window.specs.declared.pair.Found.{Found}
 use Rattle.speed_window.specs.declared.pair.Found.the-variants.{At, Nothing}
-use Rattle.speed_window.specs.Pairs.{clocks, Allowed, standard, fast, Right, Preferred, faster, smaller-factor, Best, Finds, found, nothing}
-use Rattle.speed_window.specs.Formula.{better, window, fastestOf}
+use Rattle.speed_window.specs.Pairs.{clocks, Allowed, standard, fast, Right, Preferred, faster, smaller-factor, Finds, found, nothing}
+use Rattle.speed_window.specs.Formula.{better, window}
 use Rattle.speed_window.proofs.PreferredLaws.{preferred-trans}
-use Rattle.speed_window.proofs.FastestLaws.{RightOf, standard-limits, fast-limits, fastest-finds}
+use Rattle.speed_window.proofs.PairLaws.{fast-input}
+use Rattle.speed_window.proofs.LimitLaws.{standard-limits, fast-limits}
+use Rattle.speed_window.proofs.FastestLaws.{RightOf, fastest-finds}
 
 -- one property or the other
 abbrev Either : (Pair → Type 0) → (Pair → Type 0) → Pair → Type 0
@@ -60,14 +62,6 @@ module _ (input lowest highest : ℕ) where
   abbrev Of : ℕ → Pair → Type 0
   Of factor = RightOf input lowest highest factor
 
-  -- a pair of factor 3 or 25 has an input clock
-  input-pos : (q : Pair) → (q .factor ≡ 3) ⊎ (q .factor ≡ 25) → Right input lowest highest q → 0 < input
-  input-pos q s r = go (r .allowed)
-    where
-      go : Allowed input q → 0 < input
-      go (standard e a b c) = absurd (⊎-elim (λ h. omega arith) (λ h. omega arith) s)
-      go (fast f a b c e) = omega arith
-
   -- a right pair has one of the three factors
   by-factor : (p : Pair) → Right input lowest highest p → Either (Either (Of 2) (Of 3)) (Of 25) p
   by-factor p r = go (r .allowed)
@@ -87,7 +81,7 @@ module _ (input lowest highest : ℕ) where
       (fastest-finds 25 1 400_000 (fast-limits 25 (inr refl)) input lowest highest))
     where
       later-3 : Later input (Of 2) (Of 3)
-      later-3 p q a b = (input-pos q (inl (b .1)) (b .0), omega arith)
+      later-3 p q a b = (fast-input q (b .0 .allowed) (λ e. omega arith), omega arith)
 
       later-25 : Later input (Either (Of 2) (Of 3)) (Of 25)
-      later-25 p q a b = (input-pos q (inr (b .1)) (b .0), ⊎-elim (λ h. omega arith) (λ h. omega arith) a)
+      later-25 p q a b = (fast-input q (b .0 .allowed) (λ e. omega arith), ⊎-elim (λ h. omega arith) (λ h. omega arith) a)

@@ -45,7 +45,9 @@ pub record PairsAreSet : Type 0 where
   pub fast : (chip : Chip) (input lowest highest : ℕ) (p : Pair) → Right input lowest highest p → isFast p ≡ true → EnoughFor chip input → Sets chip input p
   -- and the best pair, so every one that the function finds, factor 2 included
   pub best : (chip : Chip) (input lowest highest : ℕ) (p : Pair) → Best input (Right input lowest highest) p → 0 < input → EnoughFor chip input → Sets chip input p
-  -- of factor 2 not every right pair: some can be set with no frequency. With that frequency all are set that any sets
+  -- of factor 2 not every right pair: some can be set with no frequency. Those are whose divider is not above that frequency
+  pub not-above : (chip : Chip) (input lowest highest : ℕ) (p : Pair) → Right input lowest highest p → p .divider ≤ frequencyOf input p → 0 < input → EnoughFor chip input → Sets chip input p
+  -- and all are that any frequency sets
   pub if-any : (chip : Chip) (input lowest highest : ℕ) (p : Pair) → Right input lowest highest p → (frequency : ℕ) (duty : Duty) → AreOf p (timing chip input frequency duty) → 0 < input → Sets chip input p
   -- below 4 MHz ch32v4 refuses with 12; an input clock of 0 every chip with 10
   pub too-slow : (chip : Chip) (input lowest highest : ℕ) (p : Pair) → Right input lowest highest p → 0 < input → chip .ch32v4 ≡ true → input < 4_000_000

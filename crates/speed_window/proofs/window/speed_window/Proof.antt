@@ -1,8 +1,6 @@
 -- `speed_window::window::speed_window` meets its contract.
 -- Assumes nothing.
 use borrow.Author.Needs.{needs}
-use mathlib.Core.Path.{sym, subst}
-use lib.Dec.{lit<}
 use Rattle.speed_window.specs.Formula.{window}
 use Rattle.speed_window.proofs.WindowLaws.{window-finds}
 use Rattle.speed_window.proofs.window.speed_window.Statement.{statement}
