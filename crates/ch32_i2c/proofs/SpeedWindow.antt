@@ -26,9 +26,10 @@ use Rattle.speed_window.specs.declared.pair.Pair.{Pair}
 use Rattle.speed_window.specs.declared.pair.Found.{Found}
 use Rattle.speed_window.specs.declared.pair.Found.the-variants.{At, Nothing}
 use Rattle.speed_window.specs.Pairs.{Allowed, standard, fast, Right, Best, Finds, found, nothing}
-use Rattle.speed_window.specs.Formula.{pair}
+use Rattle.speed_window.specs.Formula.{pair, window}
 use Rattle.speed_window.specs.Setting.{frequencyOf, is16-9, dutyOf, AreOf, are-of, Sets}
 use Rattle.speed_window.proofs.PreferredLaws as preferred
+use Rattle.speed_window.proofs.WindowLaws.{window-finds}
 use Rattle.speed_window.proofs.Answers.{nothing-inside}
 use Rattle.speed_window.proofs.PairsAreSet.{pairs-are-set}
 use Rattle.block.specs.Bytes32.{blockSize}
@@ -156,6 +157,7 @@ module _ (chip input : ℕ) (p : Pair) (block : List ℕ) (known : chip < 4) (si
 
 pub speed-window : SpeedWindow
 speed-window = record {
+  answered = λ input lowest highest. record { answer = window input lowest highest; finds = window-finds input lowest highest; number = refl };
   one-answer = λ input lowest highest m n a b. is-answer input lowest highest m a (b .answer) (b .finds) ∙ sym (b .number);
   refuses = λ input lowest highest n a h. is-answer input lowest highest n a Nothing (nothing h);
   refused = λ input lowest highest n a q. none-right (a .answer) (a .finds) (told input lowest highest n a (failed NoSuchSpeed) (omega arith) q);

@@ -26,7 +26,7 @@ use Rattle.speed_window.specs.declared.pair.Pair.{Pair}
 use Rattle.speed_window.specs.declared.pair.Found.{Found}
 use Rattle.speed_window.specs.declared.pair.Found.the-variants.{At, Nothing}
 use Rattle.speed_window.specs.Pairs.{Right, Best, Finds}
-use Rattle.speed_window.specs.Formula.{pair}
+use Rattle.speed_window.specs.Formula.{pair, window}
 use Rattle.speed_window.specs.Setting.{frequencyOf, isFast, is16-9, dutyOf, Sets, PairsAreSet}
 use Rattle.images.specs.Numbers.{chipOf}
 use Rattle.ch32_i2c.specs.Fed.{Seen}
@@ -78,6 +78,7 @@ pub record InitWrites (chip input : ℕ) (p : Pair) (block : List ℕ) : Type 0 
 
 pub record SpeedWindow : Type 0 where
   -- Demand 1: one answer for any three numbers. No byte is lent, so none can change
+  pub answered : (input lowest highest : ℕ) → Answers input lowest highest (endNumber (endOf (window input lowest highest)))
   pub one-answer : (input lowest highest m n : ℕ) → Answers input lowest highest m → Answers input lowest highest n → m ≡ n
   -- 20 exactly if no pair is right; so also in a window that is upside down
   pub refuses : (input lowest highest n : ℕ) → Answers input lowest highest n → ((p : Pair) → Right input lowest highest p → ⊥) → n ≡ endNumber (failed NoSuchSpeed)

@@ -45,16 +45,16 @@ pub record PairsAreSet : Type 0 where
   pub fast : (chip : Chip) (input lowest highest : ℕ) (p : Pair) → Right input lowest highest p → isFast p ≡ true → EnoughFor chip input → Sets chip input p
   -- and the best pair, so every one that the function finds, factor 2 included
   pub best : (chip : Chip) (input lowest highest : ℕ) (p : Pair) → Best input (Right input lowest highest) p → 0 < input → EnoughFor chip input → Sets chip input p
-  -- of factor 2 not every right pair: some can be set with no frequency. Those are whose divider is not above that frequency
+  -- of factor 2 not every right pair is set, and some no frequency sets. Set are those whose divider is not above that frequency,
   pub not-above : (chip : Chip) (input lowest highest : ℕ) (p : Pair) → Right input lowest highest p → p .divider ≤ frequencyOf input p → 0 < input → EnoughFor chip input → Sets chip input p
-  -- and all are that any frequency sets
+  -- and all that any frequency sets
   pub if-any : (chip : Chip) (input lowest highest : ℕ) (p : Pair) → Right input lowest highest p → (frequency : ℕ) (duty : Duty) → AreOf p (timing chip input frequency duty) → 0 < input → Sets chip input p
   -- below 4 MHz ch32v4 refuses with 12; an input clock of 0 every chip with 10
   pub too-slow : (chip : Chip) (input lowest highest : ℕ) (p : Pair) → Right input lowest highest p → 0 < input → chip .ch32v4 ≡ true → input < 4_000_000
       → timing chip input (frequencyOf input p) (dutyOf p) ≡ Refused InputTooSlow
   pub no-input : (chip : Chip) (lowest highest : ℕ) (p : Pair) → Right 0 lowest highest p → timing chip 0 (frequencyOf 0 p) (dutyOf p) ≡ Refused InvalidFrequency
 
--- such a pair: at 8 MHz divider 3999 is right for 1,000 to 1,001 Hz, but 1,001 Hz, its speed rounded up, chooses 3997
+-- one that no frequency sets: at 8 MHz divider 3999 is right for 1,000 to 1,001 Hz, but 1,001 Hz, its speed rounded up, chooses 3997
 abbrev pub unset : Pair
 unset = record { factor = 2; divider = 3999 }
 
