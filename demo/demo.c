@@ -224,6 +224,27 @@ static void fast(void)
     temperature("write-read from the sensor");
 }
 
+/* An isolator passes only some speeds on. Init for 400 kHz with 16:9 made 360 kHz, which is not among them; the fastest that is: 36 MHz by 3 times 31. */
+static void isolated(void)
+{
+    static const uint8_t pointer[1] = {0};
+    uint8_t bytes[2];
+    uint64_t end;
+    sim_isolate(370000, 390000);
+    call("write-read from the sensor, behind an isolator for 370 to 390 kHz");
+    result(ch32_i2c_write_read(&port, SENSOR, pointer, 1, bytes, 2), CH32_I2C_NACK);
+    call("init in that window");
+    end = ch32_i2c_init_in_window_whole(&port, SIM_INPUT, 370000, 390000);
+    result(ch32_i2c_end_of(end), 0);
+    printf("    found  factor %u, divider %u: %lu Hz, rounded up\n", ch32_i2c_factor_of(end), ch32_i2c_divider_of(end),
+           (unsigned long)ch32_i2c_frequency_of(end, SIM_INPUT));
+    expect(ch32_i2c_factor_of(end) == 3 && ch32_i2c_divider_of(end) == 31, "the fastest pair");
+    temperature("write-read from the sensor");
+    call("init in a window from 388 to 399 kHz, where there is no speed");
+    result(ch32_i2c_init_in_window(&port, SIM_INPUT, 388000, 399000), CH32_I2C_NO_SUCH_SPEED);
+    sim_isolate(0, UINT32_MAX);
+}
+
 static void refused(void)
 {
     call("init: bus at 1 MHz");
@@ -297,6 +318,7 @@ int main(int count, char **arguments)
     line_disturbed();
     line_broken();
     fast();
+    isolated();
     refused();
     gauge();
     sim_wait(1000000);

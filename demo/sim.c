@@ -28,6 +28,7 @@ static int receiving, sending, acknowledged, ack_before, status_read;
 static int scl = 1, sda = 1;
 static int disturbed; /* the next byte sent will be */
 static int broken;    /* the line is, at the next address */
+static uint64_t lowest_passed, highest_passed = UINT32_MAX; /* the bus speeds that reach the devices */
 static struct device *devices[4], *selected;
 static unsigned device_count;
 
@@ -58,13 +59,24 @@ static void lines(uint64_t time, int new_scl, int new_sda)
     vcd_lines(time, scl, sda);
 }
 
-/* How long a bit lasts, by CKCFGR. */
-static uint64_t bit_time(void)
+/* How long a bit lasts, by CKCFGR: in ticks of the peripheral's clock, and in nanoseconds. */
+static uint64_t bit_ticks(void)
 {
     uint64_t ticks = reg[CH32_I2C_CKCFGR] & 0xfff;
     unsigned fast = reg[CH32_I2C_CKCFGR] >> 14;
     ticks *= fast == 3 ? 25 : fast == 2 ? 3 : 2;
-    return (ticks ? ticks : 1) * 1000000000ull / SIM_INPUT;
+    return ticks ? ticks : 1;
+}
+
+static uint64_t bit_time(void) { return bit_ticks() * 1000000000ull / SIM_INPUT; }
+
+/* Whether the devices hear anything at this speed. */
+static int passes(void) { return lowest_passed * bit_ticks() <= SIM_INPUT && SIM_INPUT <= highest_passed * bit_ticks(); }
+
+void sim_isolate(uint32_t lowest, uint32_t highest)
+{
+    lowest_passed = lowest;
+    highest_passed = highest;
 }
 
 static void wire_bit(uint64_t t, int bit)
@@ -160,11 +172,13 @@ static void acknowledge(uint64_t t)
 {
     uint16_t control = reg[CH32_I2C_CTLR1];
     if (piece == ADDRESS_BITS) {
-        selected = broken ? NULL : device_at(shift >> 1);
+        selected = broken || !passes() ? NULL : device_at(shift >> 1);
         acknowledged = selected && selected->start(selected, shift & 1, t);
         say(shift & 1 ? "[%02x+R] " : "[%02x+W] ", shift >> 1);
         if (broken)
             say("(line broken) ", 0);
+        if (!passes())
+            say("(%u Hz: not passed on) ", (unsigned)(SIM_INPUT / bit_ticks()));
         take(ADDRESS_ACK, t, 1);
     } else if (piece == SENDING_BITS && disturbed) {
         lose_bus(t);

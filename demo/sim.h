@@ -64,6 +64,9 @@ void sim_disturb(void);
 /* The line breaks under the next address: no device hears it, and its edge is a misplaced START. */
 void sim_break_line(void);
 
+/* From now on an isolator stands before the devices, which passes these bus speeds alone, in hertz and both included. */
+void sim_isolate(uint32_t lowest, uint32_t highest);
+
 /* What happened on the wire since this was last asked: START, [address+direction], ACK or NACK, bytes, STOP; notes in brackets ( ). */
 const char *sim_wire(void);
 

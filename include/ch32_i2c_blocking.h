@@ -213,6 +213,21 @@ static inline unsigned ch32_i2c_init(const struct ch32_i2c_port *port, uint32_t 
     return ch32_i2c_end_of(ch32_i2c_init_whole(port, input, frequency, duty));
 }
 
+/* The same with the fastest bus speed from `lowest` to `highest` hertz: 20 (CH32_I2C_NO_SUCH_SPEED), without any access, where there is none. The
+ * whole end has the pair that was set (ch32_i2c_divider_of, ch32_i2c_factor_of). */
+static inline uint64_t ch32_i2c_init_in_window_whole(const struct ch32_i2c_port *port, uint32_t input, uint32_t lowest, uint32_t highest)
+{
+    const uint64_t pair = ch32_i2c_speed_window(input, lowest, highest);
+    uint64_t end = pair;
+    if (ch32_i2c_is_done(pair))
+        end = ch32_i2c_init_whole(port, input, ch32_i2c_frequency_of(pair, input), ch32_i2c_duty_of(pair));
+    return ch32_i2c_is_done(end) ? pair : end;
+}
+static inline unsigned ch32_i2c_init_in_window(const struct ch32_i2c_port *port, uint32_t input, uint32_t lowest, uint32_t highest)
+{
+    return ch32_i2c_end_of(ch32_i2c_init_in_window_whole(port, input, lowest, highest));
+}
+
 /* The list is made with ch32_i2c_put_operation. */
 static inline uint64_t ch32_i2c_transaction_whole(const struct ch32_i2c_port *port, uint8_t address, const uint8_t *list,
                                                   size_t list_length, const uint8_t *written, size_t written_length, uint8_t *read,

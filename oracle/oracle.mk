@@ -4,6 +4,7 @@ RUSTC ?= rustc
 ORACLE ?= target/oracle
 ORACLE_SRC ?= oracle
 CALLS ?= 100000
+WINDOWS ?= 100000
 SEED ?= 1
 
 ORACLE_OPT ?= 3
@@ -72,9 +73,10 @@ $(ORACLE)/speed: $(ORACLE)/liboracle.rlib $(ALL_CHIPS) $(ORACLE)/as_the_rust.o $
 .PHONY: speed compare compare-faults sample oracle-check replay-c compare-bench
 
 # The carried Rust and the C library on the same calls: CALLS of each entry on each chip. On ch32v4 the reordered Rust too.
-# Then the support card, by a count of its own.
+# WINDOWS speed windows beside brute force. Then the support card, by a count of its own.
 compare: $(ORACLE)/compare
 	$(ORACLE)/compare $(SEED) $(CALLS)
+	$(ORACLE)/compare windows $(SEED) $(WINDOWS)
 	python3 oracle/card.py
 
 # Instructions and time for each access, the C library beside the Rust. Needs valgrind.

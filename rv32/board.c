@@ -147,9 +147,9 @@ static void carry_out(uint32_t *x, struct access a, uint32_t pc, uint32_t addres
 }
 
 /* The accesses with interrupts off, and the sections that they make. By blocking_read_iter the reads of the demonstration have, each section in
- * brackets: five of 2 bytes [3] [4], one of 5 bytes [1] [4], one of 1 byte [5], one of 2 bytes [3] [4]. */
-#define SECTIONS 15
-#define HELD_ACCESSES 52
+ * brackets: six of 2 bytes [3] [4], one of 5 bytes [1] [4], one of 1 byte [5], one of 2 bytes [3] [4]. */
+#define SECTIONS 17
+#define HELD_ACCESSES 59
 
 static unsigned long traps, held_accesses, sections;
 static int was_held;

@@ -30,6 +30,7 @@ static uint64_t call(const struct mailbox *m)
     case RESPOND_TO_WRITE_STEP: return ch32_i2c_respond_to_write_step(block, b, read, r, answer);
     case RESPOND_TO_READ_BEGIN: return ch32_i2c_respond_to_read_begin(block, b, n0, written, w);
     case IS_CRITICAL: return ch32_i2c_is_critical(block, b);
+    case SPEED_WINDOW: return ch32_i2c_speed_window(n[0], n[1], n[2]);
     default: return ch32_i2c_respond_to_read_step(block, b, written, w, answer);
     }
 }

@@ -153,3 +153,8 @@ uint64_t ch32_i2c_is_critical(const uint8_t *block, size_t b)
     memcpy(copy, block, b);
     return call(IS_CRITICAL, copy, b, NONE, (const uint32_t[6]){0});
 }
+/* It has no block. */
+uint64_t ch32_i2c_speed_window(uint32_t input, uint32_t lowest, uint32_t highest)
+{
+    return call(SPEED_WINDOW, NULL, 0, NONE, (const uint32_t[6]){input, lowest, highest});
+}

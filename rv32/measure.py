@@ -94,6 +94,10 @@ def figures(which):
         for line in run(HERE + '/run', work + '/one_byte', COUNT='1').splitlines():
             name, taken = line.split('\t')
             found['from STAR2 to STOP of one byte: ' + name] = int(taken)
+        linked(target, work + '/window', HERE + '/window.c', archive)
+        for line in run(HERE + '/run', work + '/window', COUNT='1').splitlines():
+            name, taken = line.split('\t')
+            found['instructions of a speed window: ' + name] = int(taken)
     return found, from_outside(archive)
 
 

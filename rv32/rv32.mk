@@ -44,8 +44,10 @@ rv32-test: rv32 $(C_OUT)/test_ch32_i2c
 	@rv32/test
 
 # The comparison with the Rust, which runs on x86-64, and the library on RV32: a program that has the library's functions as calls through a mailbox.
-# RV32_CALLS of each entry on each of four chips. Another archive: RV32_LIB, with MARCH and MABI in the environment for another core.
+# RV32_CALLS of each entry on each of four chips, and RV32_WINDOWS speed windows. Another archive: RV32_LIB, with MARCH and MABI in the environment for
+# another core.
 RV32_CALLS ?= 25000
+RV32_WINDOWS ?= 20000
 RV32_LIB ?= $(RV32)/rv32imac/libch32_i2c_fast.a
 $(RV32)/mailbox.a: rv32/mailbox_host.c rv32/mailbox.h include/ch32_i2c.h
 	@mkdir -p $(RV32)
@@ -62,6 +64,7 @@ rv32-compare rv32-faults:
 rv32-compare-now: rv32 $(RV32)/compare $(ORACLE)/speed
 	@$(ORACLE)/speed courses | cmp - rv32/courses.h
 	@rv32/compare $(RV32)/compare $(RV32_LIB) $(SEED) $(RV32_CALLS)
+	@rv32/compare $(RV32)/compare $(RV32_LIB) windows $(SEED) $(RV32_WINDOWS)
 
 rv32-courses: $(ORACLE)/speed
 	@$(ORACLE)/speed courses > $(RV32)/courses.h && cp $(RV32)/courses.h rv32/courses.h

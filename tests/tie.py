@@ -11,7 +11,10 @@ DEMANDS = CRATE / "specs" / "Demands.antt"
 FUNCTIONS = 18
 
 # What changes nothing and is no part of a call: its whole contract.
-QUESTIONS = {"ch32_i2c_is_critical": "    ensures { λ r. ⌜ r ≡ critical (now (block .entry)) ⌝ }"}
+QUESTIONS = {
+    "ch32_i2c_is_critical": "    ensures { λ r. ⌜ r ≡ critical (now (block .entry)) ⌝ }",
+    "ch32_i2c_speed_window": "    ensures { λ r. ⌜ Answers input lowest highest r ⌝ }",
+}
 
 # What a call's parameters are called in entryOf.
 IN_ENTRIES = {"buffer": "r", "read": "r", "block": "b", "answer": "a", "ten_bit": "ten", "has_second": "has",
@@ -32,13 +35,14 @@ def table(text):
 
 def contracts():
     """Function -> the definition with its arguments that its one `ensures` cites, by the source."""
-    found = {}
+    found, asked = {}, set()
     for file in sorted((CRATE / "src").glob("*.rt")):
         for function in re.findall(r'#\[no_mangle\]\s*pub extern "C" fn (\w+)\((.*?)\) -> u64\n(.*?)\n\{', file.read_text(), re.S):
             name, parameters, clauses = function
             if name in QUESTIONS:
                 if clauses != QUESTIONS[name]:
                     raise SystemExit(f"tie: {name} has another contract than its question's")
+                asked.add(name)
                 continue
             clause = re.fullmatch(r"    ensures \{ λ r\. ⌜ (Leaves|LeavesBlock) \((.*)\) r (.*) ⌝ \}", clauses)
             if not clause:
@@ -50,6 +54,8 @@ def contracts():
             if left != " ".join(f"(now ({p} .exit))" for p in lent) or len(lent) != (2 if kind == "Leaves" else 1):
                 raise SystemExit(f"tie: the contract of {name} does not speak of all that is left")
             found[name] = words
+    if asked != set(QUESTIONS):
+        raise SystemExit(f"tie: not in src: {', '.join(set(QUESTIONS) - asked)}")
     return found
 
 

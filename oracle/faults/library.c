@@ -14,6 +14,7 @@ uint64_t __real_ch32_i2c_listen_step(uint8_t *, size_t, uint16_t);
 uint64_t __real_ch32_i2c_respond_to_write_step(uint8_t *, size_t, uint8_t *, size_t, uint16_t);
 uint64_t __real_ch32_i2c_respond_to_read_step(uint8_t *, size_t, const uint8_t *, size_t, uint16_t);
 uint64_t __real_ch32_i2c_is_critical(const uint8_t *, size_t);
+uint64_t __real_ch32_i2c_speed_window(uint32_t, uint32_t, uint32_t);
 
 #define REFUSED_STEP ((uint64_t)15 << 8)
 
@@ -35,6 +36,17 @@ enum { BERR = 0x0100, ARLO = 0x0200, AF = 0x0400, OVR = 0x0800, PECERR = 0x1000,
 /* An end with Bus as the Rust has it, with BERR last. */
 #define BERR_LAST(next, block, master)                                                                                                    \
     AS(next, IS_V3(block) && FLAGS(next) & TIMEOUT ? 4 : FLAGS(next) & PECERR ? 5 : FLAGS(next) & OVR ? 6 : (master) && FLAGS(next) & AF ? 3 : 1)
+
+/* What a speed window's end holds, and how it is made. */
+#define NO_SUCH_SPEED ((uint64_t)20 << 8)
+#define HAS_PAIR(next) (((next) & 0xffff) == 0)
+#define DIVIDER(next) ((next) >> 16 & 0xffff)
+#define FACTOR(next) ((next) >> 32 & 0xffff)
+#define CLOCKS(next) (FACTOR(next) * DIVIDER(next))
+#define PAIR(factor, divider) ((uint64_t)(factor) << 32 | (uint64_t)(divider) << 16)
+
+/* Whether the speed of so many clocks lies in the window. */
+#define IS_IN_WINDOW(clocks) (lowest * (uint64_t)(clocks) <= input && input <= highest * (uint64_t)(clocks))
 
 uint64_t __wrap_ch32_i2c_init_begin(uint8_t *block, size_t n, uint8_t chip, uint32_t input, uint32_t frequency, uint8_t duty)
 {
@@ -266,4 +278,73 @@ uint64_t __wrap_ch32_i2c_is_critical(const uint8_t *block, size_t n)
         critical = 1;
 #endif
     return critical;
+}
+
+uint64_t __wrap_ch32_i2c_speed_window(uint32_t input, uint32_t lowest, uint32_t highest)
+{
+    uint64_t next = __real_ch32_i2c_speed_window(input, lowest, highest);
+#ifdef FAULT_window_divider_rounded_down
+    if (HAS_PAIR(next) && DIVIDER(next) > (FACTOR(next) == 2 ? 4 : 1) && highest * CLOCKS(next) > input)
+        next = PAIR(FACTOR(next), DIVIDER(next) - 1);
+#endif
+#ifdef FAULT_window_100000_of_factor_3
+    const int is_slower = !HAS_PAIR(next) || (FACTOR(next) == 2 && 100000 * CLOCKS(next) > input);
+    if (is_slower && input > 0 && input % 300000 == 0 && input / 300000 <= 4095 && IS_IN_WINDOW(input / 100000))
+        next = PAIR(3, input / 300000);
+#endif
+#ifdef FAULT_window_400001_of_factor_3
+    if (input > 0 && input % 1200003 == 0 && input / 1200003 <= 4095 && IS_IN_WINDOW(input / 400001))
+        next = PAIR(3, input / 1200003);
+#endif
+#ifdef FAULT_window_divider_3_of_factor_2
+    if ((!HAS_PAIR(next) || FACTOR(next) == 2) && input <= 600000 && IS_IN_WINDOW(6))
+        next = PAIR(2, 3);
+#endif
+#ifdef FAULT_window_divider_4096_of_factor_2
+    if (!HAS_PAIR(next) && input <= 819200000 && IS_IN_WINDOW(8192))
+        next = PAIR(2, 4096);
+#endif
+#ifdef FAULT_window_larger_factor_among_equals
+    if (HAS_PAIR(next) && FACTOR(next) == 3 && DIVIDER(next) % 25 == 0)
+        next = PAIR(25, DIVIDER(next) / 25 * 3);
+#endif
+#ifdef FAULT_window_larger_divider_among_equals
+    if (HAS_PAIR(next) && input == 0)
+        next = PAIR(2, 4095);
+#endif
+#ifdef FAULT_window_without_factor_25
+    if (HAS_PAIR(next) && FACTOR(next) == 25)
+        next = NO_SUCH_SPEED;
+#endif
+#ifdef FAULT_window_of_one_speed_refused
+    if (lowest == highest)
+        next = NO_SUCH_SPEED;
+#endif
+#ifdef FAULT_window_without_its_highest
+    if (HAS_PAIR(next) && highest > 0 && highest * CLOCKS(next) == input)
+        next = __real_ch32_i2c_speed_window(input, lowest, highest - 1);
+#endif
+#ifdef FAULT_window_without_its_lowest
+    if (HAS_PAIR(next) && lowest * CLOCKS(next) == input)
+        next = NO_SUCH_SPEED;
+#endif
+#ifdef FAULT_window_upside_down_turned
+    if (lowest > highest)
+        next = __real_ch32_i2c_speed_window(input, highest, lowest);
+#endif
+#ifdef FAULT_window_factor_and_divider_exchanged
+    if (HAS_PAIR(next))
+        next = PAIR(DIVIDER(next), FACTOR(next));
+#endif
+#ifdef FAULT_window_slowest
+    for (uint64_t slower = next; HAS_PAIR(slower) && input > 0;) {
+        next = slower;
+        slower = __real_ch32_i2c_speed_window(input, lowest, (uint32_t)((input - 1) / CLOCKS(next)));
+    }
+#endif
+#ifdef FAULT_window_pair_beside_20
+    if (next == NO_SUCH_SPEED)
+        next |= PAIR(2, 4);
+#endif
+    return next;
 }

@@ -1,7 +1,9 @@
 //! `compare`: the carried Rust and the C library on the same calls; on `ch32v4` the Rust in the port's order of errors too.
 //!
 //!     compare SEED CALLS [ENTRY [CHIP]]    random calls, CALLS of each entry on each chip
-//!     compare until SEED CALLS    the same calls, all entries and chips by turns, up to the first difference
+//!     compare windows SEED COUNT    speed windows, beside brute force, and what `init` makes of the pairs
+//!     compare window INPUT LOWEST HIGHEST    one of them
+//!     compare until SEED CALLS    calls of all entries and chips and windows, by turns, up to the first difference
 //!     compare replay SEED ENTRY CHIP NUMBER    one of them again, with its whole record
 //!     compare sample FILE    the stored sample
 //!     compare lines    calls from standard input, one line each (the form in which differences are printed)
@@ -15,9 +17,11 @@ use std::process::exit;
 use std::time::Instant;
 
 use oracle::generate::{Generator, Sizes};
+use oracle::generate_windows::Windows;
 use oracle::random::Random;
 use oracle::flags;
 use oracle::second;
+use oracle::windows::{self, Window};
 use oracle::{rust, sample_file, text};
 use record::{Call, Entry, Given, Record, ENTRIES};
 use rust::Outcome;
@@ -73,14 +77,18 @@ impl Beside {
             (seconds.replies, seconds.text(), seconds.is_whole()),
             (flags.errors(), flags.text(), flags.is_whole()),
         ] {
-            if count > 0 {
-                println!("{text}");
-            }
-            if count >= 10_000 && !is_whole {
-                println!("a case was not met");
-                exit(1);
-            }
+            check_cases(count, text, is_whole);
         }
+    }
+}
+
+fn check_cases(count: u64, text: String, is_whole: bool) {
+    if count > 0 {
+        println!("{text}");
+    }
+    if count >= 10_000 && !is_whole {
+        println!("a case was not met");
+        exit(1);
     }
 }
 
@@ -167,8 +175,58 @@ fn compare_all(seed: u64, calls: u64, entries: &[Entry], chips: &[u8]) {
     );
 }
 
-/// All entries and chips by turns, up to the first difference.
+/// A speed window beside brute force; then `init` with its pair.
+fn compare_window(
+    window: &Window,
+    player: &mut Player,
+    compared: &mut windows::Compared,
+    random: &mut Random,
+) -> Result<(), String> {
+    let found = play::play_window(window)?;
+    compared.add(window, found);
+    for setting in windows::settings(window, found) {
+        player.play_setting(&setting, random)?;
+        compared.add_setting(&setting);
+    }
+    Ok(())
+}
+
+fn compare_windows(seed: u64, count: u64) {
+    let (windows, mut player, mut compared) = (Windows::new(seed), Player::default(), windows::Compared::default());
+    let began = Instant::now();
+    for number in 0..count {
+        let (window, mut random) = windows.numbered(number);
+        if let Err(difference) = compare_window(&window, &mut player, &mut compared, &mut random) {
+            println!("DIFFERENCE: {}: {difference}", window.text());
+            println!("again: compare window {} {} {}", window.input, window.lowest, window.highest);
+            exit(1);
+        }
+    }
+    check_cases(compared.windows(), compared.text(), compared.is_whole());
+    println!("{count} windows, 0 differences, {:.1} s", began.elapsed().as_secs_f64());
+}
+
+fn show_window(window: &Window) {
+    let number = windows::number(windows::brute_force(window));
+    println!("{}", window.text());
+    println!("brute force   {}", windows::number_text(number));
+    println!("the C library {}", windows::number_text(library::speed_window(window)));
+    let (mut player, mut compared, mut random) = (Player::default(), windows::Compared::default(), Random::of(&[0]));
+    match compare_window(window, &mut player, &mut compared, &mut random) {
+        Ok(()) => println!("no difference"),
+        Err(difference) => {
+            println!("DIFFERENCE: {difference}");
+            exit(1);
+        }
+    }
+}
+
+/// How many windows come behind a call of each entry on each chip.
+const WINDOWS_A_TURN: u64 = 4;
+
+/// All entries and chips by turns, and windows, up to the first difference. Here no window is set by `init`: that is for its calls.
 fn compare_until(seed: u64, calls: u64) {
+    let windows = Windows::new(seed);
     let mut player = Player::default();
     let mut count = 0u64;
     for number in 0..calls {
@@ -180,8 +238,15 @@ fn compare_until(seed: u64, calls: u64) {
                 exit(1);
             }
         }
+        for place in number * WINDOWS_A_TURN..(number + 1) * WINDOWS_A_TURN {
+            let (window, _) = windows.numbered(place);
+            if let Err(difference) = play::play_window(&window) {
+                println!("found at window {}, behind {count} calls: {}: {difference}", place + 1, window.text());
+                exit(1);
+            }
+        }
     }
-    println!("NOT FOUND in {count} calls");
+    println!("NOT FOUND in {count} calls and {} windows", calls * WINDOWS_A_TURN);
 }
 
 fn replay(seed: u64, entry: Entry, chip: u8, number: u64) {
@@ -238,6 +303,14 @@ fn main() {
     match arguments[..] {
         ["lines"] => compare_lines(),
         ["sample", path] => compare_sample(path),
+        ["windows", seed, count] => match (number(seed), number(count)) {
+            (Some(seed), Some(count)) => compare_windows(seed, count),
+            _ => usage(),
+        },
+        ["window", input, lowest, highest] => match [input, lowest, highest].map(|text| text.parse().ok()) {
+            [Some(input), Some(lowest), Some(highest)] => show_window(&Window::new(input, lowest, highest)),
+            _ => usage(),
+        },
         ["until", seed, calls] => match (number(seed), number(calls)) {
             (Some(seed), Some(calls)) => compare_until(seed, calls),
             _ => usage(),
@@ -264,6 +337,6 @@ fn chosen(rest: &[&str]) -> Option<(Vec<Entry>, Vec<u8>)> {
 }
 
 fn usage() {
-    println!("compare SEED CALLS [ENTRY [CHIP]] | compare until SEED CALLS | compare replay SEED ENTRY CHIP NUMBER | compare sample FILE | compare lines");
+    println!("compare SEED CALLS [ENTRY [CHIP]] | compare windows SEED COUNT | compare window INPUT LOWEST HIGHEST | compare until SEED CALLS | compare replay SEED ENTRY CHIP NUMBER | compare sample FILE | compare lines");
     exit(2);
 }

@@ -1,5 +1,6 @@
 //! The C library's functions.
 
+use oracle::windows::Window;
 use record::{Call, Entry};
 
 macro_rules! declare {
@@ -33,12 +34,19 @@ declare! {
 
 extern "C" {
     fn ch32_i2c_is_critical(block: *const u8, block_length: usize) -> u64;
+    fn ch32_i2c_speed_window(input: u32, lowest: u32, highest: u32) -> u64;
 }
 
 /// Whether interrupts are to be held off for the access that the block owes: 0 or 1.
 pub fn is_critical(block: &[u8]) -> u64 {
     // SAFETY: the pointer goes with its length.
     unsafe { ch32_i2c_is_critical(block.as_ptr(), block.len()) }
+}
+
+/// Factor and divider for a speed in a window.
+pub fn speed_window(window: &Window) -> u64 {
+    // SAFETY: a function of numbers.
+    unsafe { ch32_i2c_speed_window(window.input, window.lowest, window.highest) }
 }
 
 /// Begins a call with the parameters of `call` and the bytes lent.

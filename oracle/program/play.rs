@@ -6,8 +6,9 @@ use oracle::flags::{self, Order};
 use oracle::random::Random;
 use oracle::rust::{self, end_number, Outcome};
 use oracle::second;
-use oracle::text::number_text;
-use record::{kind, Call, Entry, ENTRIES, WRITE};
+use oracle::text::{call_line, number_text};
+use oracle::windows::{self, Found, Setting, Window};
+use record::{kind, Call, Entry, Given, Record, ENTRIES, WRITE};
 
 use crate::library;
 
@@ -69,6 +70,17 @@ fn check(holds: bool, text: impl FnOnce() -> String) -> Result<(), String> {
     }
 }
 
+/// Asks the library for a window: it has to return the number that brute force finds.
+pub fn play_window(window: &Window) -> Result<Option<Found>, String> {
+    let found = windows::brute_force(window);
+    let (wanted, number) = (windows::number(found), library::speed_window(window));
+    check(number == wanted, || {
+        let (wanted, number) = (windows::number_text(wanted), windows::number_text(number));
+        format!("brute force {wanted}, the C library {number}")
+    })?;
+    Ok(found)
+}
+
 impl Player {
     pub fn play(&mut self, call: &Call, outcome: &Outcome, random: &mut Random) -> Result<(), String> {
         if let Some(message) = &outcome.panic {
@@ -121,6 +133,15 @@ impl Player {
         self.check_reordered(call, outcome, last)?;
         let is_decided = outcome.end.is_none() || flags::decide(call, Order::Port, &outcome.record, last as u32);
         check(is_decided, || format!("the flags {:04x} do not decide the C library's end", outcome.flags))
+    }
+
+    /// `init` with a window's pair: by the library as on the Rust, which has to set this very pair.
+    pub fn play_setting(&mut self, setting: &Setting, random: &mut Random) -> Result<(), String> {
+        let (call, answers) = (&setting.call, (0..8).map(|_| random.word()).collect());
+        let outcome = rust::run(call, Record::default(), Box::new(Given { answers, used: 0 }), false);
+        let line = || call_line(call, &outcome.record.answers);
+        self.play(call, &outcome, random).map_err(|difference| format!("{difference}: {}", line()))?;
+        check(setting.is_made(&outcome), || format!("the Rust sets another pair: {}", line()))
     }
 
     /// On `ch32v4`: the Rust in the port's order, fed the same answers, makes the same record, and its end is the library's

@@ -2,11 +2,13 @@
 //!
 //!     speed    the table, in markdown; instructions are counted by callgrind
 //!     speed run SIDE CALL TIMES    one call again and again, for callgrind
+//!     speed run window WINDOW TIMES    one speed window again and again
 //!     speed courses    the calls and their answers as a C header, for the same count on RV32 (rv32/courses.h)
 //!
 //! Counted are the instructions inside the driver: the C library's functions, or the Rust's without the recording.
 
 mod chips;
+#[allow(dead_code)] // The comparison asks more of it.
 mod library;
 
 use std::panic::Location;
@@ -17,6 +19,7 @@ use oracle::answers::{MadeUp, Mood};
 use oracle::edges::transaction;
 use oracle::random::Random;
 use oracle::rust;
+use oracle::windows::Window;
 use record::{kind, register, value, Answers, Call, Entry, Record, READ, WRITE};
 
 /// The same answers again and again.
@@ -159,6 +162,20 @@ fn courses() -> Vec<Course> {
     ]
 }
 
+/// The speed windows that are counted: in each another factor's pair is found, or none.
+const WINDOWS: [Window; 4] = [
+    Window::new(36_000_000, 95_000, 100_000),
+    Window::new(36_000_000, 380_000, 400_000),
+    Window::new(36_000_000, 360_000, 360_000),
+    Window::new(36_000_000, 387_097, 399_999),
+];
+
+fn ask(window: &Window, times: u64) {
+    for _ in 0..times {
+        std::hint::black_box(library::speed_window(std::hint::black_box(window)));
+    }
+}
+
 /// Instructions that callgrind counts inside these functions, for so many runs.
 fn counted(side: &str, functions: &[String], course: usize, times: u64) -> u64 {
     let this = std::env::current_exe().expect("the program's own path");
@@ -199,6 +216,13 @@ fn library_instructions(index: usize, course: &Course) -> f64 {
     inside("library", &[&begin, &step], index, course)
 }
 
+fn window_instructions(index: usize) -> f64 {
+    let functions = ["ch32_i2c_speed_window".to_string()];
+    let times = 1000;
+    let more = counted("window", &functions, index, 2 * times) - counted("window", &functions, index, times);
+    more as f64 / times as f64
+}
+
 /// Millions of accesses in a second.
 fn rate(side: Side, course: &Course) -> f64 {
     let times = (2_000_000 / course.accesses.len() as u64).max(1);
@@ -226,6 +250,15 @@ fn table() {
             rate(Side::Rust, course),
             rate(Side::Library, course)
         );
+    }
+}
+
+fn window_table() {
+    println!();
+    println!("| speed window | C library |");
+    println!("|---|---|");
+    for (index, window) in WINDOWS.iter().enumerate() {
+        println!("| {} | {:.1} |", window.text(), window_instructions(index));
     }
 }
 
@@ -272,13 +305,20 @@ fn main() {
     let arguments: Vec<String> = std::env::args().skip(1).collect();
     let arguments: Vec<&str> = arguments.iter().map(String::as_str).collect();
     match arguments[..] {
-        [] => table(),
+        [] => {
+            table();
+            window_table();
+        }
         ["courses"] => c_header(),
+        ["run", "window", window, times] => {
+            let window: usize = window.parse().expect("the number of a window");
+            ask(&WINDOWS[window], times.parse().expect("how many times"));
+        }
         ["run", side, course, times] => {
             let side = side_named(side).expect("rust or library");
             let course: usize = course.parse().expect("the number of a call");
             courses()[course].run(side, times.parse().expect("how many times"));
         }
-        _ => println!("speed | speed run SIDE CALL TIMES | speed courses"),
+        _ => println!("speed | speed run SIDE CALL TIMES | speed run window WINDOW TIMES | speed courses"),
     }
 }

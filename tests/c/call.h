@@ -71,6 +71,7 @@ void test_limits(void);
 void test_own_addresses(void);
 void test_left_over(void);
 void test_flags(void);
+void test_speed_window(void);
 void test_null(void);
 void test_block_lengths(void);
 void test_lent_at_steps(void);

@@ -35,6 +35,7 @@ static const struct {
     {"every pair of own and second address", test_own_addresses},
     {"both counts of a reply", test_left_over},
     {"the flags of an error", test_flags},
+    {"speed windows, pair for pair, and init with them", test_speed_window},
     {"null pointers with length 0", test_null},
     {"blocks of other lengths", test_block_lengths},
     {"steps that are lent what begin refuses", test_lent_at_steps},

@@ -29,4 +29,6 @@ pub mod Words
 pub mod RunsRecord
 pub mod Demands
 pub mod Edges
+pub mod SpeedWindow
 pub mod Examples
+pub mod WindowExamples

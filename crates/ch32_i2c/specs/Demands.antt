@@ -21,6 +21,9 @@
 --   ch32_i2c_respond_to_write_step    respondToWriteStep block buffer answer
 --   ch32_i2c_respond_to_read_begin    respondToReadBegin block chip reply
 --   ch32_i2c_respond_to_read_step     respondToReadStep block reply answer
+--
+-- Beside the calls stand two questions, which have no step and make no access: ch32_i2c_is_critical (specs/Critical.antt), and
+-- ch32_i2c_speed_window, whose demands are in specs/SpeedWindow.antt.
 use mathlib.Core.Path.{_≡_}
 use mathlib.Core.Bool.{Bool, true, false, not, _&&_, _||_}
 use mathlib.Core.List.{List, [], _∷_, _++_, map}

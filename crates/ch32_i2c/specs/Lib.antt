@@ -8,3 +8,4 @@ pub mod Fed
 pub mod Manual
 pub mod Demands
 pub mod Edges
+pub mod SpeedWindow

@@ -40,7 +40,7 @@ fn floor(fast: bool) -> u64
 }
 
 // The least divider that reaches the input clock and is allowed.
-fn divider(input: u64, step: u64, floor: u64) -> u64
+pub fn divider(input: u64, step: u64, floor: u64) -> u64
     requires { ⌜ 0 < step ⌝ }
     ensures { λ r. ⌜ Least (Enough input step floor) r ⌝ }
 {

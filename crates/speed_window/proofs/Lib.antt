@@ -1,0 +1,13 @@
+pub mod ProductLaws
+pub mod PreferredLaws
+pub mod PairLaws
+pub mod LimitLaws
+pub mod FormulaLaws
+pub mod FastestLaws
+pub mod WindowLaws
+pub mod Answers
+pub mod CeilingLaws
+pub mod ModeLaws
+pub mod SettingLaws
+pub mod PairsAreSet
+pub mod Examples

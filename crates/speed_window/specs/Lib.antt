@@ -1,0 +1,5 @@
+pub mod Pairs
+pub mod Formula
+pub mod Claims
+pub mod Setting
+pub mod Edges
