@@ -162,10 +162,13 @@ speed-window = record {
   refuses = λ input lowest highest n a h. is-answer input lowest highest n a Nothing (nothing h);
   refused = λ input lowest highest n a q. none-right (a .answer) (a .finds) (told input lowest highest n a (failed NoSuchSpeed) (omega arith) q);
   upside-down = λ input lowest highest n h a. is-answer input lowest highest n a Nothing (nothing (nothing-inside input lowest highest h));
-  tells = λ input lowest highest n divider factor d f a q. best-told (a .answer) (a .finds) (told input lowest highest n a (returnedBoth divider factor) (d, f) q);
+  tells = tells;
   pairs = pairs-are-set;
   writes = λ chip input p block known size s. init-writes chip input p block known size s;
   no-writes = λ chip input p block e known size q. own-cause chip input p block known size (timed.Refused e) q;
+  fast-written = λ chip input lowest highest p block known size r h enough. init-writes chip input p block known size (pairs-are-set .fast (chipOf chip) input lowest highest p r h enough);
+  answer-written = λ chip input lowest highest n divider factor block known size d f a q pos enough.
+      init-writes chip input (pair factor divider) block known size (pairs-are-set .best (chipOf chip) input lowest highest (pair factor divider) (tells input lowest highest n divider factor d f a q) pos enough);
 }
   where
     none-right : {input lowest highest : ℕ} (x : Found) → Finds input (Right input lowest highest) x → endOf x ≡ failed NoSuchSpeed → (p : Pair) → Right input lowest highest p → ⊥
@@ -175,3 +178,6 @@ speed-window = record {
     best-told : {input lowest highest divider factor : ℕ} (x : Found) → Finds input (Right input lowest highest) x → endOf x ≡ returnedBoth divider factor → Best input (Right input lowest highest) (pair factor divider)
     best-told {input} {lowest} {highest} (At p) (found b) q = subst (Best input (Right input lowest highest)) (λ i. record { factor = ap endingExtra q i; divider = ap endingValue q i }) b
     best-told Nothing h q = let z : _≡_ {A = ℕ} 0 1 = cc in absurd (omega arith)
+
+    tells : (input lowest highest n divider factor : ℕ) → divider < 65536 → factor < 65536 → Answers input lowest highest n → n ≡ endNumber (returnedBoth divider factor) → Best input (Right input lowest highest) (pair factor divider)
+    tells input lowest highest n divider factor d f a q = best-told (a .answer) (a .finds) (told input lowest highest n a (returnedBoth divider factor) (d, f) q)

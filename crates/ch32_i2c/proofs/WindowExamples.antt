@@ -3,7 +3,7 @@
 use mathlib.Core.Path.{_≡_, refl}
 use mathlib.Core.List.{[], _∷_}
 use mathlib.Core.Option.{some}
-use lib.Dec.{lit<}
+use lib.Dec.{lit<, lit≤}
 use lib.ListN.{replicate}
 use Rattle.registers.specs.Word.{putBit, putField}
 use Rattle.access.specs.declared.ending.Error.the-variants.{InputTooSlow}
@@ -41,6 +41,10 @@ fast-sets = are-of refl refl refl
 
 standard-written : InitWrites 1 36_000_000 (pair 2 180) (replicate 32 255)
 standard-written = speed-window .writes 1 36_000_000 (pair 2 180) (replicate 32 255) (lit< tt) refl standard-sets
+
+-- from the answer alone, on ch32v4
+fast-written : InitWrites 3 36_000_000 (pair 25 4) (replicate 32 255)
+fast-written = speed-window .answer-written 3 36_000_000 360_000 360_000 0x1900040000 4 25 (replicate 32 255) (lit< tt) refl (lit< tt) (lit< tt) fast-answer refl (lit< tt) (λ v. lit≤ tt)
 
 -- and the words
 words-are : pairWord (pair 2 180) ∷ pairWord (pair 3 30) ∷ pairWord (pair 25 4) ∷ [] ≡ 0x00b4 ∷ 0x801e ∷ 0xc004 ∷ []

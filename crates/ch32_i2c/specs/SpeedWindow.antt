@@ -1,6 +1,6 @@
 -- The speed window as C asks for it, and what the demands are for it. Which pairs are right and best: speed_window/specs/Pairs.antt.
 use mathlib.Core.Path.{_≡_}
-use mathlib.Core.Bool.{cond}
+use mathlib.Core.Bool.{true, cond}
 use mathlib.Core.List.{List, [], _∷_, _++_}
 use mathlib.Core.Option.{some}
 use Prim.Native.Nat.{ℕ, _<_, _≤_}
@@ -27,7 +27,7 @@ use Rattle.speed_window.specs.declared.pair.Found.{Found}
 use Rattle.speed_window.specs.declared.pair.Found.the-variants.{At, Nothing}
 use Rattle.speed_window.specs.Pairs.{Right, Best, Finds}
 use Rattle.speed_window.specs.Formula.{pair, window}
-use Rattle.speed_window.specs.Setting.{frequencyOf, isFast, is16-9, dutyOf, Sets, PairsAreSet}
+use Rattle.speed_window.specs.Setting.{frequencyOf, isFast, is16-9, dutyOf, Sets, EnoughFor, PairsAreSet}
 use Rattle.images.specs.Numbers.{chipOf}
 use Rattle.ch32_i2c.specs.Fed.{Seen}
 use Rattle.ch32_i2c.specs.Demands.{Call, init, refusalOf, Accepted, recordAfter}
@@ -93,4 +93,9 @@ pub record SpeedWindow : Type 0 where
   pub writes : (chip input : ℕ) (p : Pair) (block : List ℕ) → chip < 4 → length block ≡ blockSize → Sets (chipOf chip) input p → InitWrites chip input p block
   pub no-writes : (chip input : ℕ) (p : Pair) (block : List ℕ) (e : Error) → chip < 4 → length block ≡ blockSize → timing (chipOf chip) input (frequencyOf input p) (dutyOf p) ≡ timed.Refused e
       → refusalOf (setting chip input p) (length block) 0 ≡ some e
+  -- together: every right pair of factor 3 or 25 is written, and every pair that is answered
+  pub fast-written : (chip input lowest highest : ℕ) (p : Pair) (block : List ℕ) → chip < 4 → length block ≡ blockSize → Right input lowest highest p → isFast p ≡ true
+      → EnoughFor (chipOf chip) input → InitWrites chip input p block
+  pub answer-written : (chip input lowest highest n divider factor : ℕ) (block : List ℕ) → chip < 4 → length block ≡ blockSize → divider < 65536 → factor < 65536
+      → Answers input lowest highest n → n ≡ endNumber (returnedBoth divider factor) → 0 < input → EnoughFor (chipOf chip) input → InitWrites chip input (pair factor divider) block
   -- Demand 3: there is no access and no payload, so nothing to be struck out
