@@ -122,6 +122,33 @@ static void random_window(void)
     find(input, lowest, speed, looked_for(input, lowest, speed));
 }
 
+/* What docs/USING.md says of pairs of factor 2 that were not found: the divider that init writes for them. */
+static void set_as_told(uint32_t input, uint32_t divider, uint32_t frequency, uint32_t written)
+{
+    const uint64_t wanted = number_of((struct pair){2, divider});
+    check(ch32_i2c_frequency_of(wanted, input) == frequency && set_by_init(CH32_I2C_CHIP_V3, input, wanted) == written,
+          "%lu by 2 times %lu: not as told", (unsigned long)input, (unsigned long)divider);
+}
+
+/* All of them from one divider to another, at this input clock. */
+static void all_set(uint32_t input, uint32_t first, uint32_t last)
+{
+    uint32_t divider;
+    for (divider = first; divider <= last; divider++)
+        if (set_by_init(CH32_I2C_CHIP_V3, input, number_of((struct pair){2, divider})) != divider)
+            break;
+    check(divider == last + 1, "%lu by 2 times %lu: not set", (unsigned long)input, (unsigned long)divider);
+}
+
+static void factor_2(void)
+{
+    set_as_told(8000000, 3999, 1001, 3997);
+    set_as_told(1000000, 4095, 123, 4066);
+    set_as_told(100, 45, 2, 25);
+    all_set(1000000, 5, 707);
+    all_set(33600000, 168, 4095);
+}
+
 /* ---- the one-line call ---- */
 
 static void one_line(uint8_t chip, uint32_t input, uint32_t lowest, uint32_t highest, unsigned end, uint32_t word)
@@ -165,6 +192,7 @@ void test_speed_window(void)
     }
     for (i = 0; i < 100; i++)
         random_window();
+    factor_2();
     one_line(CH32_I2C_CHIP_V3, 36000000, 95000, 100000, CH32_I2C_DONE, 0x00b4);
     one_line(CH32_I2C_CHIP_V3, 36000000, 360000, 360000, CH32_I2C_DONE, 0xc004);
     one_line(CH32_I2C_CHIP_CH32V4, 4000000, 300000, 400000, CH32_I2C_DONE, 0x8004);
