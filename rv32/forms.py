@@ -1,16 +1,18 @@
 """The lines that the text of the kept module may have. Any other is refused: the kit then lowers otherwise than was looked at here.
 
 A line that is plain arithmetic on numbers may be added without more ado; one that makes, compares or hands on pointers has to be thought of in pointers.py too.
-A number is made narrower by `trunc nuw` alone, which the kit writes where it is proved that nothing is cut off; so no length is cut."""
+A pointer is compared in an exported function alone, and with null alone: for it the kit puts another that nobody follows, as its length is 0."""
 import re
 import sys
 
 V = r'%[A-Za-z0-9_.]+'
 NUMBER = r'i(?:1|8|16|32|64)'
+PAIR = r'\{ %s(?:, %s)+ \}' % (NUMBER, NUMBER)  # what a small struct of numbers is handed back as
 TYPE = r'(?:%s|ptr)' % NUMBER
+RESULT = r'(?:%s|ptr|%s)' % (NUMBER, PAIR)
 OPERAND = r'(?:%s|-?\d+|true|false)' % V
 NAME = r'(?:"[^"]*"|[A-Za-z0-9_]+)'
-PARAMETER = r'%s noundef(?: zeroext)? %%a\d+' % TYPE
+PARAMETER = r'%s(?: noundef)?(?: zeroext)? %%a\d+' % TYPE
 ALIGN = r', align \d+'
 
 FORMS = [(kind, re.compile(pattern)) for kind, pattern in [
@@ -18,32 +20,37 @@ FORMS = [(kind, re.compile(pattern)) for kind, pattern in [
     ('source', r'source_filename = "rattle"'),
     ('layout', r'target datalayout = "e-m:e-p270:32:32-p271:32:32-p272:64:64-i64:64-i128:128-f80:128-n8:16:32:64-S128"'),
     ('triple', r'target triple = "x86_64-unknown-linux-gnu"'),
-    ('declare memmove', r'declare void @llvm\.memmove\.p0\.p0\.i64\(ptr writeonly captures\(none\), ptr readonly captures\(none\), i64, i1 immarg\) #1'),
-    ('declare trap', r'declare void @llvm\.trap\(\) #2'),
-    ('attributes', r'attributes #0 = \{ nounwind "probe-stack"="inline-asm" "target-cpu"="x86-64" \}'),
-    ('attributes of intrinsics', r'attributes #[12] = \{ (?:nocallback nofree nounwind willreturn memory\(argmem: readwrite\)'
+    ('declare memmove', r'declare void @llvm\.memmove\.p0\.p0\.i64\(ptr writeonly captures\(none\), ptr readonly captures\(none\), i64, i1 immarg\) #\d'),
+    ('declare memset', r'declare void @llvm\.memset\.p0\.i64\(ptr writeonly captures\(none\), i8, i64, i1 immarg\) #\d'),
+    ('declare trap', r'declare void @llvm\.trap\(\) #\d'),
+    ('attributes', r'attributes #0 = \{ nounwind "probe-stack"="inline-asm" "stack-probe-size"="3072" "target-cpu"="x86-64-v2" \}'),
+    ('attributes of intrinsics', r'attributes #[1-3] = \{ (?:nocallback nofree nounwind willreturn memory\(argmem: (?:readwrite|write)\)'
                                  r'|cold noreturn nounwind memory\(inaccessiblemem: write\)) \}'),
-    ('metadata', r'!llvm\.ident = !\{!0\}|!0 = !\{!"rattle logic=[0-9a-f]+"\}|!1 = !\{\}|!2 = !\{i8 0, i8 2\}'),
+    ('metadata', r'!llvm\.ident = !\{!0\}|!0 = !\{!"rattle logic=[0-9a-f]+"\}|!\d = !\{(?:i8 0, i8 2)?\}'),
     ('exported', r'define noundef i64 @(?P<name>[a-z0-9_]+)\((?P<parameters>%s(?:, %s)*)\) #0 \{' % (PARAMETER, PARAMETER)),
-    ('internal', r'define internal (?:void|noundef(?: zeroext)? %s) @(?P<name>%s)\((?P<parameters>(?:%s(?:, %s)*)?)\) #0 \{' % (TYPE, NAME, PARAMETER, PARAMETER)),
+    ('internal', r'define internal (?:void|(?:noundef )?(?:zeroext )?%s) @(?P<name>%s)\((?P<parameters>(?:%s(?:, %s)*)?)\) #0 \{' % (RESULT, NAME, PARAMETER, PARAMETER)),
     ('end', r'\}'),
     ('label', r'[a-z]+(?:\.\d+)?: *(?:;.*)?'),
     ('local', r'  (?P<to>%s) = alloca (?:\[\d+ x i8\]|%s)%s' % (V, TYPE, ALIGN)),
     ('place', r'  (?P<to>%s) = getelementptr (?:inbounds nuw )?i8, ptr (?P<of>%s), i64 (?P<by>\d+)' % (V, V)),
     ('element', r'  (?P<to>%s) = getelementptr inbounds nuw i8, ptr (?P<of>%s), i64 (?P<by>%s)' % (V, V, V)),
-    ('load', r'  (?P<to>%s) = load (?P<type>%s), ptr (?P<at>%s)%s(?:, !range !2)?, !noundef !1' % (V, TYPE, V, ALIGN)),
+    ('is null', r'  %s = icmp eq ptr (?P<of>%%a\d+), null' % V),
+    ('instead of null', r'  (?P<to>%s) = getelementptr i8, ptr (?P<of>%%a\d+), i64 %s' % (V, V)),
+    ('load', r'  (?P<to>%s) = load (?P<type>%s), ptr (?P<at>%s)%s(?:, !range !\d)?(?:, !noundef !\d)?' % (V, RESULT, V, ALIGN)),
     ('store', r'  store (?P<type>%s) (?P<value>%s), ptr (?P<at>%s)%s' % (TYPE, OPERAND, V, ALIGN)),
     ('copy', r'  call void @llvm\.memmove\.p0\.p0\.i64\((?:ptr|ptr align \d+) (?P<into>%s), (?:ptr|ptr align \d+) (?P<of>%s), i64 (?P<length>\d+), i1 false\)' % (V, V)),
+    ('zeros', r'  call void @llvm\.memset\.p0\.i64\((?:ptr|ptr align \d+) (?P<into>%s), i8 0, i64 (?P<length>\d+), i1 false\)' % V),
     ('trap', r'  call void @llvm\.trap\(\)'),
-    ('call', r'  (?:(?P<to>%s) = )?call (?P<type>void|%s) @(?P<name>%s)\((?P<arguments>[^()]*)\)' % (V, TYPE, NAME)),
-    ('arithmetic', r'  %s = (?:add nuw|sub nuw|mul nuw|udiv|urem|and|or|xor|shl|lshr) %s %s, %s' % (V, NUMBER, OPERAND, OPERAND)),
+    ('call', r'  (?:(?P<to>%s) = )?call (?P<type>void|%s) @(?P<name>%s)\((?P<arguments>[^()]*)\)' % (V, RESULT, NAME)),
+    ('arithmetic', r'  %s = (?:(?:add|sub|mul)(?: nuw)?|udiv|urem|and|or|xor|shl|lshr) %s %s, %s' % (V, NUMBER, OPERAND, OPERAND)),
     ('comparison', r'  %s = icmp (?:eq|ne|ult|ule) %s %s, %s' % (V, NUMBER, OPERAND, OPERAND)),
     ('wider', r'  %s = zext i(?:1|8|16|32) %s to %s' % (V, OPERAND, NUMBER)),
-    ('narrower', r'  %s = trunc nuw i(?:8|16|32|64) %s to i(?:1|8|16|32)' % (V, OPERAND)),
+    ('narrower', r'  %s = trunc(?: nuw)? i(?:8|16|32|64) %s to i(?:1|8|16|32)' % (V, OPERAND)),
+    ('part', r'  %s = (?:extractvalue %s %s, \d+|insertvalue %s (?:%s|undef|poison), %s %s, \d+)' % (V, PAIR, V, PAIR, V, NUMBER, OPERAND)),
     ('branch', r'  br (?:label %s|i1 %s, label %s, label %s)' % (V, OPERAND, V, V)),
     ('switch', r'  switch %s %s, label %s \[' % (NUMBER, OPERAND, V)),
     ('case', r'    %s -?\d+, label %s|  \]' % (NUMBER, V)),
-    ('return', r'  ret (?:void|%s %s)' % (TYPE, OPERAND)),
+    ('return', r'  ret (?:void|%s %s)' % (RESULT, OPERAND)),
     ('unreachable', r'  unreachable'),
 ]]
 

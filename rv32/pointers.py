@@ -16,6 +16,15 @@ WIDTH_32 = {**WIDTH, 'ptr': 4}  # what the target takes
 LOADED = 'loaded'  # where a pointer leads that was loaded from memory
 
 
+def parts(pair):
+    """The offsets and types of a struct of numbers."""
+    at = 0
+    for part in re.findall(r'i\d+', pair):
+        at += -at % WIDTH[part]
+        yield at, part
+        at += WIDTH[part]
+
+
 class Module:
     def __init__(self):
         self.types = defaultdict(lambda: defaultdict(set))  # object -> offset -> types
@@ -49,7 +58,7 @@ def read(path):
     function, where = None, Places()
     for number, kind, match, text in lines(path):
         if kind in ('exported', 'internal'):
-            function = match['name']
+            function, kind_of_function = match['name'], kind
             m.calls[function] = set()
             where = Places((p.split()[-1], ((function, p.split()[-1]), 0)) for p in match['parameters'].split(', ') if p.startswith('ptr'))
         elif kind == 'local':
@@ -63,6 +72,20 @@ def read(path):
             if where[match['of']][0] != LOADED:
                 raise Refused('line %d: an element of a local variable: %s' % (number, text))
             where[match['to']] = (LOADED, 0)
+        elif kind == 'is null':
+            if kind_of_function != 'exported':
+                raise Refused('line %d: a pointer is compared: %s' % (number, text))
+        elif kind == 'instead of null':
+            if kind_of_function != 'exported':
+                raise Refused('line %d: pointer arithmetic: %s' % (number, text))
+            where[match['to']] = where[match['of']]
+        elif kind == 'zeros':
+            if where[match['into']][0] == LOADED:
+                raise Refused('line %d: zeros through a loaded pointer: %s' % (number, text))
+            m.reach(where[match['into']], int(match['length']))
+        elif kind == 'load' and match['type'].startswith('{'):
+            for offset, part in parts(match['type']):
+                m.use((where[match['at']][0], where[match['at']][1] + offset), part, number)
         elif kind == 'load':
             m.use(where[match['at']], match['type'], number)
             if match['type'] == 'ptr':
@@ -158,10 +181,11 @@ def check_calls(m):
 
 def main(path):
     m = read(path)
+    depth = check_calls(m)  # without recursion what follows comes to an end
     join(m)
     check_loaded(m)
     check_sizes(m)
-    print('%d places that hold pointers, 0 used as numbers too; %d functions, deepest chain %d' % (check_places(m), len(m.calls), check_calls(m)))
+    print('%d places that hold pointers, 0 used as numbers too; %d functions, deepest chain %d' % (check_places(m), len(m.calls), depth))
 
 
 run(main)

@@ -1,6 +1,6 @@
 """to32.py MODULE.ll TARGET-LINES HEADER: the text of the kept module for a target with 32-bit pointers.
 
-Changed are: the two target lines; the attributes that are x86's; the type of a memmove's length, which is always a constant; and in the exported
+Changed are: the two target lines; the attributes that are x86's; the type of a memmove's or memset's length, which is always a constant; and in the exported
 functions the lengths, which come as size_t, so in 32 bits, and are widened before they are stored. The functions behind them stay as they are.
 The exported functions have to be the header's, parameter by parameter. Anything that forms.py doesn't know is refused."""
 import re
@@ -34,6 +34,10 @@ def main(module, target, header):
             text = 'attributes #0 = { nounwind }'
         elif kind == 'declare memmove':
             text = text.replace('memmove.p0.p0.i64', 'memmove.p0.p0.i32').replace(', i64, i1', ', i32, i1')
+        elif kind == 'declare memset':
+            text = text.replace('memset.p0.i64', 'memset.p0.i32').replace('i8, i64, i1', 'i8, i32, i1')
+        elif kind == 'zeros':
+            text = text.replace('memset.p0.i64', 'memset.p0.i32').replace('i8 0, i64', 'i8 0, i32')
         elif kind == 'copy':
             text = text.replace('memmove.p0.p0.i64', 'memmove.p0.p0.i32').replace(', i64 %s, i1' % match['length'], ', i32 %s, i1' % match['length'])
         elif kind == 'exported':

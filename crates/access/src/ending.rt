@@ -5,7 +5,7 @@ ghost use Rattle.access.specs.Endings.{error_number, ending_error, ending_value,
 
 // The Rust's `Error`, and behind it the refusals that the port adds; 18 to 27 are for calls beside the Rust's. (The Rust's
 // `ZeroLengthTransfer`, 7, is never given.)
-#[derive(Drop)]
+#[derive(Clone, Copy)]
 pub enum Error {
     Bus,
     Arbitration,
@@ -36,7 +36,7 @@ pub enum Error {
 }
 
 // What is known of an error: an error check says which flags it cleared.
-#[derive(Drop)]
+#[derive(Clone, Copy)]
 pub struct Failure {
     pub error: Error,
     pub flags: u16,
@@ -44,13 +44,13 @@ pub struct Failure {
 
 // What a call that is done returns: the bytes stored, the bytes left over or the command of a slave call, and else 0. The second
 // number is a reply's: the bytes left over if a byte that the master did not take is not counted as sent.
-#[derive(Drop)]
+#[derive(Clone, Copy)]
 pub struct Outcome {
     pub value: u16,
     pub second: u16,
 }
 
-#[derive(Drop)]
+#[derive(Clone, Copy)]
 pub enum Ending {
     Done(Outcome),
     Failed(Failure),

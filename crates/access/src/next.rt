@@ -5,7 +5,7 @@ ghost use Rattle.access.specs.Program.{late};
 use crate::ending::Ending;
 use registers::Register;
 
-#[derive(Drop)]
+#[derive(Clone, Copy)]
 pub enum Next {
     Read(Register),
     Write(Register, u16),

@@ -11,7 +11,7 @@ use Rattle.access.specs.declared.ending.Failure.{Failure}
 use Rattle.access.specs.declared.ending.Ending.{Ending}
 use Rattle.access.specs.declared.ending.Ending.TheVariants.{Failed}
 use Rattle.access.specs.Endings.{failure_of, failed}
-use Rattle.access.specs.Program.{Access, read, Program, finish, access, keep, cut, Blocking, pure, throw, read_register, write_register, modify, send_data, store, if◌then◌else◌, only_if, or_else, on_drop, while, for_each, spin, Turn, continue, return, turned, spin_from, loop, late, check_timeout, call_of, ◌>>◌, ◌>>=◌}
+use Rattle.access.specs.Program.{Access, read, Program, finish, access, keep, cut, Blocking, pure, throw, read_register, write_register, modify, send_data, store, when◌then◌else◌, only_if, or_else, on_drop, while, for_each, spin, Turn, continue, return, turned, spin_from, loop, late, check_timeout, call_of, ◌>>◌, ◌>>=◌}
 use Rattle.access.specs.Record.{Event, Shown, no_more, event, arrival, answer_to, shown_of}
 use Rattle.access.proofs.Choice.{first_true, second_true, both_true}
 use Rattle.alike.specs.Like.{forget_end, forgetting, answer_allowed, all_allowed, any_answer, Like, Alike}
@@ -92,7 +92,7 @@ module _ {forget : Ending → Ending} {allowed : Access → ℕ → Bool} where
   pub store_alike : (b : ℕ) → Alike forget allowed (store b) (store b)
   store_alike b = record { like = λ n H K. keeps (K tt) }
 
-  pub if_alike : {A : Type 0} {x x' y y' : Blocking A} (b : Bool) → Alike forget allowed x x' → Alike forget allowed y y' → Alike forget allowed (if b then x else y) (if b then x' else y')
+  pub if_alike : {A : Type 0} {x x' y y' : Blocking A} (b : Bool) → Alike forget allowed x x' → Alike forget allowed y y' → Alike forget allowed (when b then x else y) (when b then x' else y')
   if_alike b x y = record { like = λ n H K. cases b (x.like n H K) (y.like n H K) }
 
   pub only_alike : {x x' : Blocking (Unit {0})} (b : Bool) → Alike forget allowed x x' → Alike forget allowed (only_if b x) (only_if b x')

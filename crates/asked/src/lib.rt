@@ -1,5 +1,7 @@
 // What is asked for next, by number: C's number (docs/USING.md), but for a byte to send or to keep, which is asked for by its place.
 // `need_of` takes the number apart again.
+#![tactic(auto)]
+
 ghost use Rattle.std.specs.Prelude.{◌≡◌, length};
 ghost use Rattle.access.specs.declared.ending.Error.TheVariants.{InvalidState};
 ghost use Rattle.access.specs.declared.need.Need.TheVariants as need;

@@ -3,6 +3,7 @@ ghost use Rattle.std.specs.Prelude.{◌≡◌, ◌≤◌};
 ghost use Rattle.bench_text.specs.Digits.{digit_of, glyph, pair_of, word_of};
 
 // The value of a hex digit, and 16 for any other byte.
+#[tactic(auto, unfolding(crate::specs::Digits::digit_of))]
 pub fn digit(byte: u8) -> u8
     ensures value { result ≡ digit_of byte }
     ensures upper_bound { result ≤ 16 }

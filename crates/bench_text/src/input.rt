@@ -10,7 +10,7 @@ use crate::line::Header;
 
 // What the lines so far come to: the bytes of the list and to write, the bytes to read (65,535 for more), the answers, and
 // whether an `A` line came.
-#[derive(Drop)]
+#[derive(Clone, Copy)]
 pub struct Parts {
     pub listed: usize,
     pub written: usize,
@@ -19,13 +19,13 @@ pub struct Parts {
     pub answered: bool,
 }
 
-#[derive(Drop)]
+#[derive(Clone, Copy)]
 pub enum Taken {
     Bad,
     Good(Parts),
 }
 
-#[derive(Drop)]
+#[derive(Clone, Copy)]
 pub enum Parsed {
     Bad(u32),
     Call(u8, u8, Parts),

@@ -1,4 +1,6 @@
 // The bench program's text: what its lines say, which line is bad, and what is printed.
+#![tactic(auto)]
+
 pub mod digits;
 pub mod input;
 pub mod line;

@@ -29,7 +29,7 @@ pub fn line_end(text: &[u8], from: usize) -> usize
     at
 }
 
-#[derive(Drop)]
+#[derive(Clone, Copy)]
 pub enum Header {
     Bad,
     Call(u8, u8),

@@ -126,5 +126,7 @@ pub fn put(block: &mut [u8], f: Fields)
     ensures { block.new ≡ bytes_of f }
 {
     let bytes = image(f);
-    bytes::copy(&bytes, block);
+    for i in 0..BLOCK_SIZE {
+        block[i] = bytes[i];
+    }
 }

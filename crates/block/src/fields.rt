@@ -2,7 +2,7 @@
 ghost use Rattle.std.specs.Prelude.{◌≡◌};
 ghost use Rattle.block.specs.Fields.{same_call, same_stage, same_ending, same_run, same_words, same_rest, same_extras, same_fields};
 
-#[derive(Drop)]
+#[derive(Clone, Copy)]
 pub struct Fields {
     // The entry: 1 to 9, in the order of the C header.
     pub entry: u8,

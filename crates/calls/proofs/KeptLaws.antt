@@ -5,7 +5,6 @@ use mathlib.Core.Bool.{Bool, true, false, cond, not, ◌&&◌, true≢false}
 use mathlib.Core.List.{List}
 use Prim.Native.Nat.{ℕ}
 use native.Mathlib.Omega.{arith}
-use lib.Dec.{eqb}
 use lib.ListN.{set}
 use borrow.Author.Tests.{eq-eqb}
 use Rattle.registers.specs.Word.{field_of}
@@ -16,7 +15,7 @@ use Rattle.access.specs.declared.need.Need.TheVariants as need
 use Rattle.access.specs.Endings.{failed}
 use Rattle.access.specs.Machine.{kept, is_end}
 use Rattle.access.proofs.EndingLaws.{words_hold}
-use Rattle.asked.specs.Asked.{Asks, need_of, need_number}
+use Rattle.asked.specs.Asked.{Asks, need_of}
 use Rattle.calls.specs.declared.stepped.Stepped.{Stepped}
 use Rattle.calls.specs.Kept.{Keeps, keeping_with, keeping_by}
 

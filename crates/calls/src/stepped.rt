@@ -6,7 +6,7 @@ ghost use Rattle.calls.specs.Kept.{refused_step, keeping_with};
 
 use access::{Error, Need, ending};
 
-#[derive(Drop)]
+#[derive(Clone, Copy)]
 pub struct Stepped {
     pub need: Need,
     // Whether the answer's byte is to be kept, and where.

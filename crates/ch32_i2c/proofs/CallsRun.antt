@@ -1,7 +1,7 @@
 -- What is seen of an accepted call, whichever it is: its machine's, and so layer 1's.
 -- Assumes nothing.
 use mathlib.Core.Path.{◌≡◌, refl, ap, sym, subst, ◌∙◌}
-use mathlib.Core.Bool.{Bool, true, false, cond, not, ◌||◌}
+use mathlib.Core.Bool.{Bool, true, false, not, ◌||◌}
 use mathlib.Core.List.{List, [], ◌∷◌, ◌++◌}
 use mathlib.Core.Option.{Option, none, some}
 use Prim.Native.Nat.{ℕ, ◌≤◌}
@@ -15,7 +15,7 @@ use Rattle.access.specs.declared.ending.Error.TheVariants.{InvalidState, Invalid
 use Rattle.access.specs.Endings.{failed}
 use Rattle.access.specs.Record.{Shown, no_more}
 use Rattle.access.specs.Machine.{filled, is_end, shown_from}
-use Rattle.block.specs.Bytes32.{block_size, bytes_of}
+use Rattle.block.specs.Bytes32.{block_size}
 use Rattle.timing.specs.declared.settings.Timing.{Timing}
 use Rattle.timing.specs.declared.settings.Timed.{Timed}
 use Rattle.timing.specs.declared.settings.Timed.TheVariants as timed
@@ -23,9 +23,7 @@ use Rattle.timing.specs.declared.init.Stage as timingStage
 use Rattle.timing.specs.declared.init.Stage.TheVariants as timingStages
 use Rattle.timing.specs.declared.init.State as timingState
 use Rattle.timing.specs.Rust.{timing}
-use Rattle.timing.specs.Claims as timing
 use Rattle.timing.specs.Machine as init_machine
-use Rattle.master.specs.declared.call.Kind.{Kind}
 use Rattle.master.specs.declared.call.Call as master
 use Rattle.master.specs.declared.state.Move.{Move}
 use Rattle.master.specs.Machine.{master, start, owed}

@@ -12,7 +12,7 @@ use Rattle.block.specs.Bytes32.{block_size, fields_of}
 use Rattle.block.specs.Fields.{same_fields}
 use Rattle.master.specs.declared.stage.Stage.{Stage}
 use Rattle.master.specs.declared.state.State.{State}
-use Rattle.stage_numbers.specs.MasterStage.{address_stage_number, address_stage_of, read_stage_number, read_stage_of, stop_for_number, stop_for_of, half_number, half_of, stage_of, is_stage}
+use Rattle.stage_numbers.specs.MasterStage.{address_stage_number, address_stage_of, read_stage_number, read_stage_of, stop_for_number, stop_for_of, stage_of, is_stage}
 use Rattle.access.proofs.Bytes.{bytes}
 use Rattle.access.proofs.Compared.{itself, turned, joined, with_true}
 use Rattle.stage_numbers.proofs.MasterStageRanges.{half_range}

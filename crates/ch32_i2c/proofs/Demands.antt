@@ -34,7 +34,7 @@ use Rattle.timing.specs.Rust.{timing}
 use Rattle.timing.proofs.InitAgrees.{init_is_the_rust}
 use Rattle.master.specs.declared.call.Call as master
 use Rattle.master.specs.declared.call.Kind.TheVariants as kind
-use Rattle.master.specs.Calls.{Lent, lent_with, cut, refusal, InForm, rust_with, ours_with, call_shown, seen_after, spans_by, spans_of}
+use Rattle.master.specs.Calls.{Lent, lent_with, cut, refusal, InForm, rust_with, ours_with, call_shown, spans_by, spans_of}
 use Rattle.master.specs.Claims.{Comparable}
 use Rattle.master.specs.Joined.{Joined, JW, JR, joined}
 use Rattle.master.specs.Rust.{the_rust}

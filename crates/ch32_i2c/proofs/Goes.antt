@@ -1,7 +1,7 @@
 -- A step that is taken does not answer 15.
 -- Assumes nothing.
 use mathlib.Core.Path.{◌≡◌, refl, ap, sym, subst, ◌∙◌}
-use mathlib.Core.Bool.{Bool, true, false, cond, not, true≢false}
+use mathlib.Core.Bool.{Bool, true, false, not, true≢false}
 use mathlib.Core.List.{List, []}
 use mathlib.Core.Option.{Option, none, some}
 use Prim.Native.Nat.{ℕ}
@@ -31,10 +31,9 @@ use Rattle.slave.specs.declared.state.State as slave
 use Rattle.slave.specs.Init as initSlaveMachine
 use Rattle.slave.specs.Machine as slaveMachine
 use Rattle.slave.specs.Fits as slaveFit
-use Rattle.slave.specs.Calls.{SlaveLent, size_of, bytes_of}
+use Rattle.slave.specs.Calls.{SlaveLent, size_of}
 use Rattle.slave.specs.Steps as slaveSteps
 use Rattle.slave.proofs.FitsKept as slaveFits
-use Rattle.slave_driver.specs.Lent as slaveLent
 use Rattle.images.specs.declared.init_image.InitFound.{InitFound}
 use Rattle.images.specs.declared.init_image.InitFound.TheVariants as initFound
 use Rattle.images.specs.declared.master_image.MasterFound.{MasterFound}

@@ -136,6 +136,7 @@ module _ (chip input : ℕ) (p : Pair) (block : List ℕ) (known : chip < 4) (si
 
   -- settings that are the pair's
   writes_at : (x : Timed) → timing.timing (chip_of chip) input (frequency_of input p) (duty_of p) ≡ x → AreOf p x → InitWrites chip input p block
+  writes_at (timed.Refused r) e h = elim h [ ]
   writes_at (timed.At t) e (are_of divider quick duty_bit) = record { accepted = accepted; written = written }
     where
       accepted : Accepted (setting chip input p) block []

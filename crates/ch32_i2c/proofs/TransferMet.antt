@@ -1,7 +1,7 @@
 -- A master call that is accepted ends with 0 and no second number, or with an error that was met.
 -- Assumes nothing.
 use mathlib.Core.Path.{◌≡◌, refl, sym, subst}
-use mathlib.Core.Bool.{Bool, true, false, not, ◌&&◌, true≢false}
+use mathlib.Core.Bool.{Bool, true, not, ◌&&◌, true≢false}
 use lib.Dec.{eqb}
 use Rattle.access.specs.declared.need.Need.{Need}
 use Rattle.access.specs.declared.need.Need.TheVariants as need

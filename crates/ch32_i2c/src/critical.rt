@@ -29,8 +29,7 @@ fn in_section(group: u8, what: u8, phase: u8) -> bool
 }
 
 // 1 if the access that the block owes lies in such a section, else 0. Most accesses do not, which the stage tells at once.
-#[unsafe(no_mangle)]
-pub extern "C" fn ch32_i2c_is_critical(block: &[u8]) -> u64
+pub fn ch32_i2c_is_critical(block: &[u8]) -> u64
     ensures { result ≡ critical block.now }
 {
     if block.len() != bytes32::BLOCK_SIZE {

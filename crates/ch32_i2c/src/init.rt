@@ -25,14 +25,7 @@ fn unknown(chip: u8, duty: u8) -> bool
     (3 < chip) | (1 < duty)
 }
 
-#[unsafe(no_mangle)]
-pub extern "C" fn ch32_i2c_init_begin(
-    block: &mut [u8],
-    chip: u8,
-    input: u32,
-    frequency: u32,
-    duty: u8,
-) -> u64
+pub fn ch32_i2c_init_begin(block: &mut [u8], chip: u8, input: u32, frequency: u32, duty: u8) -> u64
     ensures { LeavesBlock (init_begin block.old chip input frequency duty) result block.new }
 {
     let need = init::begin(
@@ -47,8 +40,7 @@ pub extern "C" fn ch32_i2c_init_begin(
     left::number(need, &none)
 }
 
-#[unsafe(no_mangle)]
-pub extern "C" fn ch32_i2c_init_step(block: &mut [u8], answer: u16) -> u64
+pub fn ch32_i2c_init_step(block: &mut [u8], answer: u16) -> u64
     ensures { LeavesBlock (init_step block.old answer) result block.new }
 {
     let need = init::step(block, answer);

@@ -27,8 +27,7 @@ fn unknown_flags(ten: u8, has: u8, general: u8, stretching: u8) -> bool
     ((1 < ten) | (1 < has)) | ((1 < general) | (1 < stretching))
 }
 
-#[unsafe(no_mangle)]
-pub extern "C" fn ch32_i2c_init_slave_begin(
+pub fn ch32_i2c_init_slave_begin(
     block: &mut [u8],
     ten_bit: u8,
     address: u16,
@@ -53,8 +52,7 @@ pub extern "C" fn ch32_i2c_init_slave_begin(
     left::number(need, &none)
 }
 
-#[unsafe(no_mangle)]
-pub extern "C" fn ch32_i2c_init_slave_step(block: &mut [u8], answer: u16) -> u64
+pub fn ch32_i2c_init_slave_step(block: &mut [u8], answer: u16) -> u64
     ensures { LeavesBlock (init_slave_step block.old answer) result block.new }
 {
     let need = init_slave::step(block, answer);

@@ -1,5 +1,7 @@
 // What C programs call: nine calls, each with a begin and a step; and two questions: where interrupts are to be held off, and which bus
 // speed lies within a window. docs/STATE.md describes the block.
+#![tactic(auto)]
+
 pub mod critical;
 pub mod init;
 pub mod init_slave;

@@ -7,8 +7,7 @@ use calls::response;
 use images::numbers;
 use slave::Kind;
 
-#[unsafe(no_mangle)]
-pub extern "C" fn ch32_i2c_listen_begin(block: &mut [u8], chip: u8) -> u64
+pub fn ch32_i2c_listen_begin(block: &mut [u8], chip: u8) -> u64
     ensures { LeavesBlock (listen_begin block.old chip) result block.new }
 {
     let need = response::begin(block, chip, Kind::Listen, 0);
@@ -16,8 +15,7 @@ pub extern "C" fn ch32_i2c_listen_begin(block: &mut [u8], chip: u8) -> u64
     left::number(need, &none)
 }
 
-#[unsafe(no_mangle)]
-pub extern "C" fn ch32_i2c_listen_step(block: &mut [u8], answer: u16) -> u64
+pub fn ch32_i2c_listen_step(block: &mut [u8], answer: u16) -> u64
     ensures { LeavesBlock (listen_step block.old answer) result block.new }
 {
     let need = response::step(block, numbers::LISTEN, 0, answer);
@@ -25,12 +23,7 @@ pub extern "C" fn ch32_i2c_listen_step(block: &mut [u8], answer: u16) -> u64
     left::number(need, &none)
 }
 
-#[unsafe(no_mangle)]
-pub extern "C" fn ch32_i2c_respond_to_write_begin(
-    block: &mut [u8],
-    chip: u8,
-    buffer: &mut [u8],
-) -> u64
+pub fn ch32_i2c_respond_to_write_begin(block: &mut [u8], chip: u8, buffer: &mut [u8]) -> u64
     ensures { Leaves (respond_to_write_begin block.old chip buffer.old) result block.new buffer.new }
 {
     let need = response::begin(block, chip, Kind::RespondToWrite, buffer.len());
@@ -38,12 +31,7 @@ pub extern "C" fn ch32_i2c_respond_to_write_begin(
     left::number(need, &none)
 }
 
-#[unsafe(no_mangle)]
-pub extern "C" fn ch32_i2c_respond_to_write_step(
-    block: &mut [u8],
-    buffer: &mut [u8],
-    answer: u16,
-) -> u64
+pub fn ch32_i2c_respond_to_write_step(block: &mut [u8], buffer: &mut [u8], answer: u16) -> u64
     ensures { Leaves (respond_to_write_step block.old buffer.old answer) result block.new buffer.new }
 {
     let stepped = response::receive_step(block, buffer.len(), answer);
@@ -53,16 +41,14 @@ pub extern "C" fn ch32_i2c_respond_to_write_step(
     left::number(need, &none)
 }
 
-#[unsafe(no_mangle)]
-pub extern "C" fn ch32_i2c_respond_to_read_begin(block: &mut [u8], chip: u8, reply: &[u8]) -> u64
+pub fn ch32_i2c_respond_to_read_begin(block: &mut [u8], chip: u8, reply: &[u8]) -> u64
     ensures { LeavesBlock (respond_to_read_begin block.old chip reply.now) result block.new }
 {
     let need = response::begin(block, chip, Kind::RespondToRead, reply.len());
     left::number(need, reply)
 }
 
-#[unsafe(no_mangle)]
-pub extern "C" fn ch32_i2c_respond_to_read_step(block: &mut [u8], reply: &[u8], answer: u16) -> u64
+pub fn ch32_i2c_respond_to_read_step(block: &mut [u8], reply: &[u8], answer: u16) -> u64
     ensures { LeavesBlock (respond_to_read_step block.old reply.now answer) result block.new }
 {
     let need = response::step(block, numbers::RESPOND_TO_READ, reply.len(), answer);

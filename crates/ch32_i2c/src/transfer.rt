@@ -35,8 +35,7 @@ fn begin(
     left::number(need, written)
 }
 
-#[unsafe(no_mangle)]
-pub extern "C" fn ch32_i2c_transaction_begin(
+pub fn ch32_i2c_transaction_begin(
     block: &mut [u8],
     chip: u8,
     address: u8,
@@ -56,8 +55,7 @@ pub extern "C" fn ch32_i2c_transaction_begin(
     )
 }
 
-#[unsafe(no_mangle)]
-pub extern "C" fn ch32_i2c_transaction_step(
+pub fn ch32_i2c_transaction_step(
     block: &mut [u8],
     list: &[u8],
     written: &[u8],
@@ -72,8 +70,7 @@ pub extern "C" fn ch32_i2c_transaction_step(
     left::number(need, written)
 }
 
-#[unsafe(no_mangle)]
-pub extern "C" fn ch32_i2c_write_read_begin(
+pub fn ch32_i2c_write_read_begin(
     block: &mut [u8],
     chip: u8,
     address: u8,
@@ -93,8 +90,7 @@ pub extern "C" fn ch32_i2c_write_read_begin(
     )
 }
 
-#[unsafe(no_mangle)]
-pub extern "C" fn ch32_i2c_write_read_step(
+pub fn ch32_i2c_write_read_step(
     block: &mut [u8],
     written: &[u8],
     read: &mut [u8],
@@ -108,8 +104,7 @@ pub extern "C" fn ch32_i2c_write_read_step(
     left::number(need, written)
 }
 
-#[unsafe(no_mangle)]
-pub extern "C" fn ch32_i2c_write_begin(
+pub fn ch32_i2c_write_begin(
     block: &mut [u8],
     chip: u8,
     address: u8,
@@ -134,16 +129,14 @@ pub extern "C" fn ch32_i2c_write_begin(
     )
 }
 
-#[unsafe(no_mangle)]
-pub extern "C" fn ch32_i2c_write_step(block: &mut [u8], written: &[u8], answer: u16) -> u64
+pub fn ch32_i2c_write_step(block: &mut [u8], written: &[u8], answer: u16) -> u64
     ensures { LeavesBlock (write_step block.old written.now answer) result block.new }
 {
     let need = transfer::write_step(block, written.len(), answer);
     left::number(need, written)
 }
 
-#[unsafe(no_mangle)]
-pub extern "C" fn ch32_i2c_read_begin(
+pub fn ch32_i2c_read_begin(
     block: &mut [u8],
     chip: u8,
     address: u8,
@@ -167,8 +160,7 @@ pub extern "C" fn ch32_i2c_read_begin(
     )
 }
 
-#[unsafe(no_mangle)]
-pub extern "C" fn ch32_i2c_read_step(block: &mut [u8], read: &mut [u8], answer: u16) -> u64
+pub fn ch32_i2c_read_step(block: &mut [u8], read: &mut [u8], answer: u16) -> u64
     ensures { Leaves (read_step block.old read.old answer) result block.new read.new }
 {
     let stepped = transfer::read_step(block, read.len(), answer);

@@ -6,8 +6,7 @@ use speed_window::Found;
 use speed_window::window::speed_window;
 
 // Input clock and speeds in hertz. 0 with the divider and the factor of the best pair, or 20.
-#[unsafe(no_mangle)]
-pub extern "C" fn ch32_i2c_speed_window(input: u32, lowest: u32, highest: u32) -> u64
+pub fn ch32_i2c_speed_window(input: u32, lowest: u32, highest: u32) -> u64
     ensures { Answers input lowest highest result }
 {
     let found = speed_window(input, lowest, highest);

@@ -1,4 +1,6 @@
 // How many of the 65,536 status words lead to each error class.
+#![tactic(auto)]
+
 ghost use Rattle.std.specs.Prelude.{◌≡◌, cond, ◌/◌, ◌≤◌};
 ghost use Rattle.class_count.specs.ClassWords.{words_of};
 

@@ -1,4 +1,6 @@
 // The class of a status word: the first error flag that is set decides. Master and slave share it.
+#![tactic(auto)]
+
 pub mod met;
 pub mod rust;
 
@@ -11,7 +13,7 @@ ghost use Rattle.errors.specs.Classes.{error_of};
 use access::{Error, Failure, ending};
 use registers::{Chip, bits, flags, word};
 
-#[derive(Drop)]
+#[derive(Clone, Copy)]
 pub enum Checked {
     Fine,
     Failed(Failure),

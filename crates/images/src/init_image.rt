@@ -8,7 +8,7 @@ use timing::init::{Stage, State};
 use timing::settings::Timing;
 
 // What a block says of `init`, if it is the image of a state.
-#[derive(Drop)]
+#[derive(Clone, Copy)]
 pub enum InitFound {
     At(State),
     Nothing,

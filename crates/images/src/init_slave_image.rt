@@ -8,7 +8,7 @@ use slave::init::{InitStage, InitState};
 use slave::{SecondAddress, SlaveAddress, SlaveConfig};
 
 // What a block says of `init_slave`, if it is the image of a state.
-#[derive(Drop)]
+#[derive(Clone, Copy)]
 pub enum InitSlaveFound {
     At(InitState),
     Nothing,

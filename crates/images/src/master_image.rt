@@ -5,7 +5,7 @@ ghost use Rattle.images.specs.MasterImage.{frame_options_number, frame_options_o
 use master::{FrameOptions, Kind, State};
 
 // What a block says of a master call, if it is the image of a state.
-#[derive(Drop)]
+#[derive(Clone, Copy)]
 pub enum MasterFound {
     At(State),
     Nothing,

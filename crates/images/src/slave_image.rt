@@ -2,7 +2,7 @@
 use slave::State;
 
 // What a block says of a slave call, if it is the image of a state.
-#[derive(Drop)]
+#[derive(Clone, Copy)]
 pub enum SlaveFound {
     At(State),
     Nothing,

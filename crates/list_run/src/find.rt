@@ -6,8 +6,11 @@ ghost use Rattle.list_run.specs.Answer.{no_run, found_of};
 
 use crate::runs;
 
+// What a list may have in all, to write and to read.
+const MOST_BYTES: u32 = 65535;
+
 // The run, where there is one: its direction, its length, the bytes of that direction before it, and whether another follows.
-#[derive(Drop)]
+#[derive(Clone, Copy)]
 pub struct Found {
     pub found: bool,
     pub reading: bool,
@@ -55,7 +58,7 @@ pub fn find(list: &[u8], written: usize, room: usize, number: u16) -> Found
     if !end.ok {
         return no_run();
     }
-    if 65535 < end.written + end.read {
+    if MOST_BYTES < end.written + end.read {
         return no_run();
     }
     if written != end.written as usize {

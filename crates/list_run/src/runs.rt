@@ -7,7 +7,7 @@ use operations::{operation, search};
 
 // Before a run, or behind the last one: the bytes written and read before it, and the direction and the bytes of the run behind
 // which it is. A place that is not `ok` is none.
-#[derive(Drop)]
+#[derive(Clone, Copy)]
 pub struct Place {
     pub ok: bool,
     pub at: usize,

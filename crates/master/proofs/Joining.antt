@@ -15,12 +15,11 @@ use Rattle.registers.specs.Word.{put_bit}
 use Rattle.access.specs.declared.ending.Error.TheVariants.{InvalidAddress}
 use Rattle.access.specs.declared.ending.Failure.{Failure}
 use Rattle.access.specs.Endings.{failure_of}
-use Rattle.access.specs.Program.{Program, access, read, write, Blocking, for_each, ◌>>◌}
+use Rattle.access.specs.Program.{Program, access, read, write, Blocking, for_each}
 use Rattle.master.specs.declared.call.Frame.{Frame}
 use Rattle.master.specs.declared.call.FrameOptions.TheVariants.{FirstAndLastFrame, FirstFrame}
 use Rattle.master.specs.Rust as text
 use Rattle.master.specs.Rust.{Operation, Write, Read, Parts, the_rust, is_empty, frame, frame_of, validate_address, abort_transfer, wait_stop_finished, group_of, rest_of, buffers_of, lengths_of, sum}
-use Rattle.master.specs.Ours.{ours}
 use Rattle.master.specs.Joined.{JW, JR, framed, join_written, join_read, joined, runs_program}
 use Rattle.master.specs.Claims.{Passes, RunsJoin}
 

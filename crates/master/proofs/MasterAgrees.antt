@@ -47,7 +47,7 @@ use Rattle.master.specs.declared.state.Progress.{Progress}
 use Rattle.master.specs.declared.state.Move.{Move}
 use Rattle.master.specs.Rust as text
 use Rattle.master.specs.Rust.{generate_stop, finish_transfer, abort_transfer, validate_address, wait_stop_finished, launch_start}
-use Rattle.master.specs.Ours.{check_and_clear_error_flags, wait_flag, send_byte, start_and_address, write_bytes, recv_byte, recv_next, take_next, recv_all, recv_above_3, blocking_read_iter}
+use Rattle.master.specs.Ours.{check_and_clear_error_flags, wait_flag, send_byte, write_bytes, recv_next, take_next, recv_all, recv_above_3, blocking_read_iter}
 use Rattle.master.specs.Machine.{to, saves, saves_divider, saves_rise, ends_with, counted, begun, fails, is_set, stops_here, continues, finished, write_bytes_move, read_bytes, waited, tests, fallen, begins, Shape, run_of, owed, advance, master}
 use Rattle.master.proofs.Counts.{next_place}
 

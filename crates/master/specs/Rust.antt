@@ -11,7 +11,7 @@ use Rattle.registers.specs.Addresses.{address_word}
 use Rattle.access.specs.declared.ending.Error.{Error}
 use Rattle.access.specs.declared.ending.Error.TheVariants.{Bus, Arbitration, Nack, Timeout, Crc, Overrun, BufferTooLong, InvalidAddress}
 use Rattle.access.specs.Endings.{failure_of}
-use Rattle.access.specs.Program.{Blocking, pure, throw, read_register, write_register, modify, send_data, store, if◌then◌else◌, only_if, or_else, on_drop, while, for_each, check_timeout, ◌>>◌, ◌>>=◌}
+use Rattle.access.specs.Program.{Blocking, pure, throw, read_register, write_register, modify, send_data, store, when◌then◌else◌, only_if, or_else, on_drop, while, for_each, check_timeout, ◌>>◌, ◌>>=◌}
 use Rattle.master.specs.declared.call.FrameOptions.{FrameOptions}
 use Rattle.master.specs.declared.call.FrameOptions.TheVariants.{FirstAndLastFrame, FirstFrame, FirstAndNextFrame, NextFrame, LastFrame, LastFrameNoStop}
 use Rattle.master.specs.declared.call.Frame.{Frame}
@@ -114,12 +114,12 @@ module _ (chip : Chip) where
   abort_transfer = do
     finish_transfer
     control ← read_register Ctlr1
-    if has_bit START control || has_bit STOP control
+    when has_bit START control || has_bit STOP control
         then (do
           ctlr2 ← read_register Ctlr2
           let frequency = field_of FREQ ctlr2
           divider ← read_register Ckcfgr
-          rise ← if chip.i2c_v3 then read_register Rtr else pure 0
+          rise ← when chip.i2c_v3 then read_register Rtr else pure 0
           write_register Ctlr1 (put_bit SWRST true 0)
           write_register Ctlr1 (put_bit SWRST false 0)
           write_register Ctlr2 (put_field FREQ frequency 0)
@@ -131,7 +131,7 @@ module _ (chip : Chip) where
           only_if (has_bit MSL star2) generate_stop)
 
   unfoldable pub validate_address : ℕ → Blocking (Unit {0})
-  validate_address address = if ltb 0x7f address then fail InvalidAddress else pure tt
+  validate_address address = when ltb 0x7f address then fail InvalidAddress else pure tt
 
   unfoldable pub wait_stop_finished : Blocking (Unit {0})
   wait_stop_finished =
@@ -155,7 +155,7 @@ module _ (chip : Chip) where
 
   -- `total.checked_add(length).ok_or(Error::BufferTooLong)?`, with the 32-bit `usize` of these chips
   unfoldable pub checked_add : ℕ → ℕ → Blocking ℕ
-  checked_add total n = if ltb (total + n) (2 ^ 32) then pure (total + n) else fail BufferTooLong
+  checked_add total n = when ltb (total + n) (2 ^ 32) then pure (total + n) else fail BufferTooLong
 
   -- `for operation in operations { .. }` of `validate_operations`, over `total`
   unfoldable pub validate_from : ℕ → List Operation → Bool → Blocking (Unit {0})
@@ -288,12 +288,12 @@ module _ (chip : Chip) where
             start_and_address true addr
             only_if (leb remaining 2 && frame.send_nack) (modify Ctlr1 (put_bit ACK false))
             star2 ← read_register Star2
-            if eqb remaining 1 && frame.send_stop
+            when eqb remaining 1 && frame.send_stop
                 then generate_stop
                 else only_if (eqb remaining 1 && frame.send_nack) (modify Ctlr1 (put_bit START true)))
-          if not frame.send_nack
+          when not frame.send_nack
               then recv_all remaining
-              else (if eqb remaining 1
+              else (when eqb remaining 1
               then recv_next
               else (do
                 remaining ← recv_above_3 remaining
@@ -302,7 +302,7 @@ module _ (chip : Chip) where
                   modify Ctlr1 (put_bit ACK false)
                   take_next
                   wait_btf)
-                if frame.send_stop then generate_stop else modify Ctlr1 (put_bit START true)
+                when frame.send_stop then generate_stop else modify Ctlr1 (put_bit START true)
                 take_next
                 take_next))
           only_if frame.send_stop (do
@@ -340,7 +340,7 @@ module _ (chip : Chip) where
         let read = is_read operation
         let group = group_of read (operation ∷ operations)
         let rest = rest_of read (operation ∷ operations)
-        if read
+        when read
             then blocking_read_iter addr (sum (lengths_of group)) (frame (cond (is_empty rest) FirstAndLastFrame FirstFrame))
             else write_group addr true (buffers_of group) (is_empty rest)
         transact addr turns rest

@@ -2,7 +2,7 @@
 use registers::Chip;
 
 // The Rust's `FrameOptions`, in its order.
-#[derive(Drop)]
+#[derive(Clone, Copy)]
 pub enum FrameOptions {
     FirstAndLastFrame,
     FirstFrame,
@@ -13,7 +13,7 @@ pub enum FrameOptions {
 }
 
 // What `send_start`, `send_stop` and `send_nack` answer.
-#[derive(Drop)]
+#[derive(Clone, Copy)]
 pub struct Frame {
     pub send_start: bool,
     pub send_stop: bool,
@@ -21,7 +21,7 @@ pub struct Frame {
 }
 
 // The entry, with a frame's option.
-#[derive(Drop)]
+#[derive(Clone, Copy)]
 pub enum Kind {
     Transaction,
     WriteRead,
@@ -29,7 +29,7 @@ pub enum Kind {
     Read(FrameOptions),
 }
 
-#[derive(Drop)]
+#[derive(Clone, Copy)]
 pub struct Call {
     pub chip: Chip,
     pub address: u16,
@@ -37,7 +37,7 @@ pub struct Call {
 }
 
 // What a step goes by of the call. Where there are several runs, STOP is asked at the last alone.
-#[derive(Drop)]
+#[derive(Clone, Copy)]
 pub struct Setting {
     pub chip: Chip,
     pub address: u16,

@@ -1,4 +1,6 @@
 // The master's calls and the states of its machine. The meaning of both is in specs/, and the code is in crates `master_step` and `master_call`.
+#![tactic(auto)]
+
 pub mod call;
 pub mod stage;
 pub mod state;

@@ -1,20 +1,20 @@
 // The access that a master owes, by the Rust function that makes it. `Read` and `Write` are the halves of a `modify`.
 
 // wait_stop_finished: STOP has to fall before a START, and at the end of the frame.
-#[derive(Drop)]
+#[derive(Clone, Copy)]
 pub enum Fall {
     Start,
     End,
 }
 
-#[derive(Drop)]
+#[derive(Clone, Copy)]
 pub enum FallStage {
     Control,
     Clock,
 }
 
 // launch_start, once STOP has fallen.
-#[derive(Drop)]
+#[derive(Clone, Copy)]
 pub enum LaunchStage {
     Control,
     Status,
@@ -23,7 +23,7 @@ pub enum LaunchStage {
 }
 
 // What is waited for: SB, ADDR, TXE, BTF behind a sent byte, BTF with three or two bytes left to read, RXNE.
-#[derive(Drop)]
+#[derive(Clone, Copy)]
 pub enum Flag {
     Sb,
     Addr,
@@ -35,7 +35,7 @@ pub enum Flag {
 }
 
 // A wait: the error check reads STAR1 and clears flags; then the clock.
-#[derive(Drop)]
+#[derive(Clone, Copy)]
 pub enum WaitStage {
     Status,
     Clear,
@@ -43,7 +43,7 @@ pub enum WaitStage {
 }
 
 // From SB to the address: whether this master made the START, and the address word; STAR2 behind ADDR.
-#[derive(Drop)]
+#[derive(Clone, Copy)]
 pub enum AddressStage {
     Control,
     Master,
@@ -52,7 +52,7 @@ pub enum AddressStage {
 }
 
 // recv_byte, once the error check has passed.
-#[derive(Drop)]
+#[derive(Clone, Copy)]
 pub enum RecvStage {
     Status,
     Data,
@@ -60,7 +60,7 @@ pub enum RecvStage {
 
 // blocking_read_iter: POS, ACK off for one or two bytes, START for one byte, ACK off before the third last byte, that byte,
 // START before the last two, these two, POS off.
-#[derive(Drop)]
+#[derive(Clone, Copy)]
 pub enum ReadStage {
     PosWrite,
     AckRead,
@@ -79,21 +79,21 @@ pub enum ReadStage {
 }
 
 // generate_stop: at the end of a write, for one byte to read, before the last two.
-#[derive(Drop)]
+#[derive(Clone, Copy)]
 pub enum StopFor {
     Write,
     One,
     Two,
 }
 
-#[derive(Drop)]
+#[derive(Clone, Copy)]
 pub enum Half {
     Read,
     Write,
 }
 
 // abort_transfer, with finish_transfer first and generate_stop last.
-#[derive(Drop)]
+#[derive(Clone, Copy)]
 pub enum AbortStage {
     FinishRead,
     FinishWrite,
@@ -113,7 +113,7 @@ pub enum AbortStage {
 }
 
 // `Begin` is the first access of a run: CTLR1 is read, for POS or for STOP.
-#[derive(Drop)]
+#[derive(Clone, Copy)]
 pub enum Stage {
     Begin,
     WaitStop(Fall, FallStage),

@@ -3,7 +3,7 @@ use crate::call::Call;
 use crate::stage::Stage;
 use access::Ending;
 
-#[derive(Drop)]
+#[derive(Clone, Copy)]
 pub struct Progress {
     // The run's direction, number and bytes left, and the place of the next of them in the written or the read bytes.
     pub reading: bool,
@@ -19,13 +19,13 @@ pub struct Progress {
 }
 
 // Where an answer leads.
-#[derive(Drop)]
+#[derive(Clone, Copy)]
 pub struct Move {
     pub stage: Stage,
     pub progress: Progress,
 }
 
-#[derive(Drop)]
+#[derive(Clone, Copy)]
 pub struct State {
     pub call: Call,
     pub stage: Stage,

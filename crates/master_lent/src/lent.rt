@@ -11,7 +11,10 @@ use access::Error;
 use master::Kind;
 use operations::{Direction, FoundRun, Run, Searched, Sums, search};
 
-#[derive(Drop)]
+// 256 operations of three bytes.
+const LONGEST_LIST: usize = 768;
+
+#[derive(Clone, Copy)]
 pub enum Looked {
     Refused(Error),
     Found(FoundRun),
@@ -42,7 +45,7 @@ pub fn look_transaction(
     if !validate_address(address) {
         return Looked::Refused(Error::InvalidAddress);
     }
-    if 768 < list.len() {
+    if LONGEST_LIST < list.len() {
         return Looked::Refused(Error::TooManyOperations);
     }
     match search::validate_operations(list, number) {

@@ -5,10 +5,10 @@ use native.Mathlib.Omega.{arith}
 use mathlib.Core.Path.{◌≡◌, refl, sym, ap, ◌∙◌}
 use mathlib.Core.Bool.{Bool, true, false, beq, cond, ◌&&◌, ◌||◌, true≢false}
 use mathlib.Core.List.{List}
-use lib.Dec.{eqb, leb, ltb}
-use borrow.Author.Tests.{eqb-true, eq-eqb, ne_eqb, le-ltb, lt-ltb}
+use lib.Dec.{eqb, ltb}
+use borrow.Author.Tests.{eqb-true, eq-eqb, ne_eqb}
 use Rattle.access.proofs.EndingLaws.{ended_done}
-use Rattle.access.specs.Endings.{done, is_done}
+use Rattle.access.specs.Endings.{is_done}
 use Rattle.errors.specs.Met.{has_failed}
 use Rattle.access.proofs.Choice.{both_true, first_true, second_true}
 use Rattle.images.specs.Numbers.{flag_number}

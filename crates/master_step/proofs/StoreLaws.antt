@@ -3,7 +3,7 @@
 use Prim.Native.Nat.{ℕ}
 use native.Mathlib.Omega.{arith}
 use mathlib.Core.Path.{◌≡◌, sym, ap, ◌∙◌}
-use mathlib.Core.Bool.{Bool, true, false, not, ◌&&◌, true≢false}
+use mathlib.Core.Bool.{Bool, true, ◌&&◌, true≢false}
 use lib.Dec.{eqb}
 use Rattle.access.specs.Endings.{ending_number, done, is_done}
 use Rattle.access.proofs.Choice.{chosen, first_true, second_true}

@@ -2,7 +2,7 @@
 ghost use Rattle.std.specs.Prelude.{◌≡◌, ◌&&◌, eqb, ltb};
 ghost use Rattle.master_step.specs.Going.{starting_in, closing_in, sending_in, receiving_in, last_ones_in, single_in};
 
-#[derive(Drop)]
+#[derive(Clone, Copy)]
 pub struct Here {
     // The run: its direction, its bytes, the place of the first of them, and whether another run follows.
     pub reading: bool,

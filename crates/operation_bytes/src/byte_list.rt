@@ -5,7 +5,7 @@ ghost use Rattle.operation_bytes.specs.Encoded.{count_of, number_of, bytes_of, l
 use operations::{Direction, Operation};
 
 // The list is the first `length` bytes.
-#[derive(Drop)]
+#[derive(Clone, Copy)]
 pub struct ByteList {
     pub bytes: [u8; 771],
     pub length: usize,

@@ -1,4 +1,6 @@
-// A slice of operation structs as the bytes that C lends. The functions over the slice are two, each proved by hand.
+// A slice of operation structs as the bytes that C lends.
+#![tactic(auto)]
+
 pub mod byte_list;
 pub mod slice;
 

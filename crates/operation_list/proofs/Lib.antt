@@ -1,4 +1,3 @@
 pub mod ManyLaws
 pub mod SliceLaws
 pub mod Examples
-pub mod LentWalk

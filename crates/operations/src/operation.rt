@@ -3,13 +3,13 @@ ghost use Rattle.std.specs.Prelude.{◌≡◌, ◌+◌, ◌*◌, ◌≤◌, leng
 ghost use Rattle.operations.specs.Runs.{same};
 ghost use Rattle.operations.specs.Operations.{is_read, empty_read, direction_of, word_of, operation_at};
 
-#[derive(Drop)]
+#[derive(Clone, Copy)]
 pub enum Direction {
     Write,
     Read,
 }
 
-#[derive(Drop)]
+#[derive(Clone, Copy)]
 pub struct Operation {
     pub direction: Direction,
     pub length: u16,

@@ -9,7 +9,7 @@ use crate::operation::Direction;
 use access::Error;
 
 // A run: its direction, the sum of its lengths, the bytes of that direction before it, and whether another run follows.
-#[derive(Drop)]
+#[derive(Clone, Copy)]
 pub struct Run {
     pub direction: Direction,
     pub length: u16,
@@ -17,27 +17,27 @@ pub struct Run {
     pub more: bool,
 }
 
-#[derive(Drop)]
+#[derive(Clone, Copy)]
 pub enum FoundRun {
     At(Run),
     Nothing,
 }
 
 // The bytes that a list writes and reads.
-#[derive(Drop)]
+#[derive(Clone, Copy)]
 pub struct Sums {
     pub written: u16,
     pub read: u16,
 }
 
-#[derive(Drop)]
+#[derive(Clone, Copy)]
 pub enum Searched {
     Refused(Error),
     Passed(Sums, FoundRun),
 }
 
 // What the runs passed so far come to. `ahead` counts down to 0, which it reaches with the run that is asked for.
-#[derive(Drop)]
+#[derive(Clone, Copy)]
 pub struct Tally {
     pub written: u16,
     pub read: u16,

@@ -10,7 +10,7 @@ const FRONT: usize = 12;
 
 // How many calls, accesses and bytes were compared, how many calls differ, the number of the first
 // of these, and whether the sample was whole.
-#[derive(Drop)]
+#[derive(Clone, Copy)]
 pub struct Tally {
     pub calls: u64,
     pub accesses: u64,

@@ -8,7 +8,7 @@ use crate::{library, stored};
 const STALE: u8 = 0xc3;
 
 // How a call went: whether all is as stored, and how much was compared.
-#[derive(Drop)]
+#[derive(Clone, Copy)]
 pub struct Played {
     pub same: bool,
     pub accesses: u64,
@@ -78,7 +78,7 @@ fn as_stored(read: &[u8], seed: u8, arrived: &[u8]) -> bool {
 
 // How far the accesses are as stored, up to the last, with what the library says there. Where one
 // differs, `at` is the end of them all.
-#[derive(Drop)]
+#[derive(Clone, Copy)]
 struct Reached {
     at: usize,
     next: u64,

@@ -5,7 +5,7 @@ ghost use Rattle.std.specs.Prelude.{◌≤◌, length};
 pub const HEAD: usize = 36;
 
 // The parameters of every entry; those that an entry does not have are 0.
-#[derive(Drop)]
+#[derive(Clone, Copy)]
 pub struct Call {
     pub entry: u8,
     pub chip: u8,

@@ -14,7 +14,6 @@ use Rattle.registers.specs.Word.{has_bit}
 use Rattle.registers.specs.Flags.{error_flags}
 use Rattle.access.specs.declared.ending.Ending.{Ending}
 use Rattle.access.specs.declared.need.Need.TheVariants as need
-use Rattle.access.specs.Endings.{failure_of}
 use Rattle.access.specs.Program.{late}
 use Rattle.access.specs.Record.{Shown, EqualUnless, DifferInPayload, Same, SameStruck}
 use Rattle.access.specs.Machine.{shown_from}
@@ -32,7 +31,7 @@ use Rattle.slave.specs.declared.stage.ErrorStage.TheVariants as errors
 use Rattle.slave.specs.declared.stage.AbortStage.TheVariants as abort
 use Rattle.slave.specs.declared.stage.Stage.{Stage}
 use Rattle.slave.specs.declared.stage.Stage.TheVariants.{ClearStopf, Stale, Arm, Poll, Match, Receive, Send, ClearAf, Errors, Abort, Ended}
-use Rattle.slave.specs.declared.state.Kind.TheVariants.{Listen, RespondToWrite, RespondToRead}
+use Rattle.slave.specs.declared.state.Kind.TheVariants.{RespondToWrite, RespondToRead}
 use Rattle.slave.specs.declared.state.Setting.{Setting}
 use Rattle.slave.specs.declared.state.Progress.{Progress}
 use Rattle.slave.specs.declared.state.Move.{Move}

@@ -10,7 +10,7 @@ use Rattle.registers.specs.Flags.{error_flags, clear_error}
 use Rattle.access.specs.declared.ending.Error.{Error}
 use Rattle.access.specs.declared.ending.Error.TheVariants.{Bus, Arbitration, Timeout, Crc, Overrun, InvalidAddress}
 use Rattle.access.specs.Endings.{failure_of}
-use Rattle.access.specs.Program.{Blocking, pure, throw, read_register, write_register, modify, send_data, store, if◌then◌else◌, only_if, on_drop, continue, return, loop, check_timeout, ◌>>◌, ◌>>=◌}
+use Rattle.access.specs.Program.{Blocking, pure, throw, read_register, write_register, modify, send_data, store, when◌then◌else◌, only_if, on_drop, continue, return, loop, check_timeout, ◌>>◌, ◌>>=◌}
 use Rattle.slave.specs.declared.config.SlaveAddress.{SlaveAddress}
 use Rattle.slave.specs.declared.config.SlaveAddress.TheVariants.{SevenBit, TenBit}
 use Rattle.slave.specs.declared.config.SecondAddress.{SecondAddress}
@@ -81,15 +81,15 @@ ten_bits oaddr1 = field_of ADD9_8 oaddr1 * 256 + field_of ADD7_1 oaddr1 * 2 + co
 
 unfoldable pub decode_slave_address : ℕ → Blocking SlaveAddress
 decode_slave_address star2 =
-    if has_bit GENCALL star2
+    when has_bit GENCALL star2
     then pure (SevenBit 0)
-    else (if has_bit DUALF star2
+    else (when has_bit DUALF star2
     then (do
       oaddr2 ← read_register Oaddr2
       pure (SevenBit (field_of ADD2 oaddr2)))
     else (do
       oaddr1 ← read_register Oaddr1
-      if has_bit ADDMODE oaddr1 then pure (TenBit (ten_bits oaddr1)) else pure (SevenBit (field_of ADD7_1 oaddr1))))
+      when has_bit ADDMODE oaddr1 then pure (TenBit (ten_bits oaddr1)) else pure (SevenBit (field_of ADD7_1 oaddr1))))
 
 -- the Rust's `SendStatus`
 pub data SendStatus : Type 0 where
@@ -160,7 +160,7 @@ module _ (chip : Chip) where
       modify Ctlr1 (put_bit ACK true)
       loop (tt {0}) (λ _. do
         star1 ← read_register Star1
-        if has_bit ADDR star1
+        when has_bit ADDR star1
             then (do
               star2 ← read_register Star2
               address ← decode_slave_address star2
@@ -174,19 +174,19 @@ module _ (chip : Chip) where
     blocking_respond_to_write size =
         loop 0 (λ stored. do
           star1 ← read_register Star1
-          if has_bit RXNE star1
+          when has_bit RXNE star1
               then (do
                 datar ← read_register Datar
-                if ltb stored size
+                when ltb stored size
                     then (do
                       store (field_of DATA datar)
                       pure (continue (suc stored)))
                     else pure (continue stored))
-              else (if has_bit STOPF star1
+              else (when has_bit STOPF star1
               then (do
                 clear_stopf
                 pure (return stored))
-              else (if has_bit ADDR star1
+              else (when has_bit ADDR star1
               then pure (return stored)
               else (do
                 check_errors_and_time star1
@@ -200,17 +200,17 @@ module _ (chip : Chip) where
           loop 0 (λ sent. do
             star1 ← read_register Star1
             let send_status = counts star1
-            if has_bit AF star1
+            when has_bit AF star1
                 then (do
                   clear_af
                   pure (return (send_status (length bytes) sent)))
-                else (if has_bit STOPF star1
+                else (when has_bit STOPF star1
                 then (do
                   clear_stopf
                   pure (return (send_status (length bytes) (taken_off star1 sent))))
-                else (if has_bit ADDR star1
+                else (when has_bit ADDR star1
                 then pure (return (send_status (length bytes) (taken_off star1 sent)))
-                else (if has_bit TXE star1
+                else (when has_bit TXE star1
                 then (do
                   send_data (get_or bytes sent 0)
                   pure (continue (suc sent)))

@@ -2,7 +2,7 @@
 use crate::config::SlaveAddress;
 
 // The Rust's `SlaveCommandKind`, in its order.
-#[derive(Drop)]
+#[derive(Clone, Copy)]
 pub enum SlaveCommandKind {
     GeneralCall,
     Read,
@@ -10,7 +10,7 @@ pub enum SlaveCommandKind {
 }
 
 // The Rust's `SlaveCommand`.
-#[derive(Drop)]
+#[derive(Clone, Copy)]
 pub struct SlaveCommand {
     pub kind: SlaveCommandKind,
     pub address: SlaveAddress,

@@ -1,21 +1,21 @@
 // What `init_slave` is called with.
 
 // The Rust's `SlaveAddress`.
-#[derive(Drop)]
+#[derive(Clone, Copy)]
 pub enum SlaveAddress {
     SevenBit(u16),
     TenBit(u16),
 }
 
 // The Rust's `Option<u8>`.
-#[derive(Drop)]
+#[derive(Clone, Copy)]
 pub enum SecondAddress {
     Nothing,
     At(u8),
 }
 
 // The Rust's `SlaveConfig`.
-#[derive(Drop)]
+#[derive(Clone, Copy)]
 pub struct SlaveConfig {
     pub address: SlaveAddress,
     pub second_address: SecondAddress,

@@ -2,7 +2,7 @@
 use crate::config::SlaveConfig;
 
 // The access that is owed: each `modify` is a read and a write.
-#[derive(Drop)]
+#[derive(Clone, Copy)]
 pub enum InitStage {
     DisableRead,
     DisableWrite,
@@ -15,7 +15,7 @@ pub enum InitStage {
     Ended,
 }
 
-#[derive(Drop)]
+#[derive(Clone, Copy)]
 pub struct InitState {
     pub config: SlaveConfig,
     pub stage: InitStage,

@@ -1,4 +1,6 @@
 // The slave's calls and the states of its machines. The meaning of both is in specs/, and the code is in crates `slave_step` and `slave_driver`.
+#![tactic(auto)]
+
 pub mod command;
 pub mod config;
 pub mod init;

@@ -1,13 +1,13 @@
 // The access that a slave owes, by the Rust function that makes it. `Read` and `Write` are the halves of a `modify`.
 
 // clear_stopf: before listening, and at the end of a response.
-#[derive(Drop)]
+#[derive(Clone, Copy)]
 pub enum StopfFor {
     Listen,
     End,
 }
 
-#[derive(Drop)]
+#[derive(Clone, Copy)]
 pub enum StopfStage {
     Status,
     Read,
@@ -15,14 +15,14 @@ pub enum StopfStage {
 }
 
 // clear_slave_stale_flags, once STOPF is cleared.
-#[derive(Drop)]
+#[derive(Clone, Copy)]
 pub enum StaleStage {
     Status,
     Clear,
 }
 
 // blocking_listen: ITBUFEN off, ACK on.
-#[derive(Drop)]
+#[derive(Clone, Copy)]
 pub enum ArmStage {
     BufferRead,
     BufferWrite,
@@ -31,28 +31,28 @@ pub enum ArmStage {
 }
 
 // The slave is addressed: STAR2, and for decode_slave_address OADDR2 or OADDR1.
-#[derive(Drop)]
+#[derive(Clone, Copy)]
 pub enum MatchStage {
     Status,
     Second,
     Own,
 }
 
-#[derive(Drop)]
+#[derive(Clone, Copy)]
 pub enum Half {
     Read,
     Write,
 }
 
 // slave_handle_errors, and behind it the clock.
-#[derive(Drop)]
+#[derive(Clone, Copy)]
 pub enum ErrorStage {
     Clear,
     Clock,
 }
 
 // abort_slave_transfer, with disable_slave_transfers first.
-#[derive(Drop)]
+#[derive(Clone, Copy)]
 pub enum AbortStage {
     DisableRead,
     DisableWrite,
@@ -62,7 +62,7 @@ pub enum AbortStage {
 }
 
 // `Poll` is the read of STAR1 that begins each turn of the three loops; `Receive` takes a byte, and `Send` gives one.
-#[derive(Drop)]
+#[derive(Clone, Copy)]
 pub enum Stage {
     ClearStopf(StopfFor, StopfStage),
     Stale(StaleStage),

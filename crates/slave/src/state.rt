@@ -4,7 +4,7 @@ use access::Ending;
 use registers::Chip;
 
 // The entry.
-#[derive(Drop)]
+#[derive(Clone, Copy)]
 pub enum Kind {
     Listen,
     RespondToWrite,
@@ -12,14 +12,14 @@ pub enum Kind {
 }
 
 // What a step goes by: the call, and how many bytes the buffer takes or the data has.
-#[derive(Drop)]
+#[derive(Clone, Copy)]
 pub struct Setting {
     pub chip: Chip,
     pub kind: Kind,
     pub size: u16,
 }
 
-#[derive(Drop)]
+#[derive(Clone, Copy)]
 pub struct Progress {
     // The bytes stored; or those sent, and one more than the data has where it is more.
     pub count: u32,
@@ -30,13 +30,13 @@ pub struct Progress {
 }
 
 // Where an answer leads.
-#[derive(Drop)]
+#[derive(Clone, Copy)]
 pub struct Move {
     pub stage: Stage,
     pub progress: Progress,
 }
 
-#[derive(Drop)]
+#[derive(Clone, Copy)]
 pub struct State {
     pub chip: Chip,
     pub kind: Kind,

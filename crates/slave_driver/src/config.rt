@@ -8,7 +8,7 @@ use access::Error;
 use slave::{SecondAddress, SlaveAddress, SlaveConfig};
 
 // What `validate` answers.
-#[derive(Drop)]
+#[derive(Clone, Copy)]
 pub enum Validation {
     Valid,
     Refused(Error),

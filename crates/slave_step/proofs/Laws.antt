@@ -20,7 +20,6 @@ use Rattle.images.specs.Numbers.{chip_of}
 use Rattle.images.specs.SlaveImage.{kind_of, slave_fields}
 use Rattle.images.proofs.NumberLaws.{chip_back}
 use Rattle.slave.specs.declared.stage.Stage.{Stage}
-use Rattle.slave.specs.declared.state.Kind.{Kind}
 use Rattle.slave.specs.declared.state.Kind.TheVariants.{Listen, RespondToWrite, RespondToRead}
 use Rattle.slave.specs.declared.state.Move.{Move}
 use Rattle.slave.specs.declared.state.Progress.{Progress}

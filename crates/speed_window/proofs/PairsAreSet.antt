@@ -9,7 +9,7 @@ use Rattle.timing.specs.declared.settings.Timed.TheVariants as timed
 use Rattle.timing.specs.Rust.{timing}
 use Rattle.timing.proofs.TimingLaws as timingLaws
 use Rattle.speed_window.specs.declared.pair.Pair.{Pair}
-use Rattle.speed_window.specs.Pairs.{clocks, Allowed, fast, Right, Best}
+use Rattle.speed_window.specs.Pairs.{clocks, Allowed, Right, Best}
 use Rattle.speed_window.specs.Formula.{pair}
 use Rattle.speed_window.specs.Setting.{frequency_of, is_fast, duty_of, AreOf, Sets, PairsAreSet}
 use Rattle.speed_window.proofs.CeilingLaws.{ceil_least}

@@ -52,6 +52,7 @@ no_refusal x h q = true≢false (sym (go x h) ∙ ap is_settled (sym q))
   where
     go : {p : Pair} (x : Timed) → AreOf p x → is_settled x ≡ true
     go (timed.At t) (are_of a b c) = refl
+    go (timed.Refused e) h = elim h [ ]
 
 taken_enough : (chip : Chip) (input n : ℕ) (duty : Duty) (p : Pair) → AreOf p (timing chip input n duty) → EnoughFor chip input
 taken_enough chip input n duty p h v = go (dec_le 4_000_000 input)
@@ -171,6 +172,7 @@ module _ (m : Mode) (chip : Chip) (input d : ℕ) (l : LimitsOf m input d) (pos 
 
       reaches : input ≤ e * m.factor * n
       reaches = let more : frequency * (e * m.factor) ≤ n * (e * m.factor) = mul-le-mul_right (e * m.factor) lower in let r = h.reaches in omega arith
+  no_smaller n other (timed.Refused r) _ x e h = elim x [ ]
 
   pub any_sets : (n : ℕ) (other : Duty) → AreOf (pair m.factor d) (timing chip input n other) → Sets chip input (pair m.factor d)
   any_sets n other h = sets_by (taken_enough chip input n other (pair m.factor d) h) (no_smaller n other (timing chip input n other) (documented chip input n other) h)

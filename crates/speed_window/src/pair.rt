@@ -3,13 +3,13 @@ ghost use Rattle.std.specs.Prelude.{◌≡◌};
 ghost use Rattle.speed_window.specs.Pairs.{clocks};
 
 // So many input clocks make a bus clock: the one number times the other.
-#[derive(Drop)]
+#[derive(Clone, Copy)]
 pub struct Pair {
     pub factor: u16,
     pub divider: u16,
 }
 
-#[derive(Drop)]
+#[derive(Clone, Copy)]
 pub enum Found {
     At(Pair),
     Nothing,

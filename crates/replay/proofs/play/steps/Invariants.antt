@@ -1,0 +1,9 @@
+-- `replay::play::steps` meets its contract.
+use Rattle.std.proofs.Common.{◌≡◌, ◌-◌, ◌≤◌, length}
+use Rattle.replay.proofs.play.steps.Given as goal
+
+abbrev pub invariant-loop-at : goal.invariant-loop-at
+invariant-loop-at l = (l.at ≤ length l.accesses) × ((length l.block ≡ length l.initial.block) × (length l.read ≡ length l.initial.read))
+
+abbrev pub decreases-loop-at : goal.decreases-loop-at
+decreases-loop-at l = length l.accesses - l.at
