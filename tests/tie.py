@@ -1,13 +1,14 @@
 #!/usr/bin/env python3
 """The tie between the code and the demands: the table at the head of Demands.antt names for each exported function the definition that its
-contract cites. It is compared with the contracts in src/ and with `entry_of`, which the demands are about. Then wrong tables are tried, and
-each has to be refused."""
+contract cites. It is compared with the contracts of the library and of its exports, whose parameters have to be the same, and with `entry_of`,
+which the demands are about. Then wrong tables are tried, and each has to be refused."""
 import re
 import sys
 from pathlib import Path
 
 CRATES = Path(__file__).resolve().parent.parent / "crates"
-EXPORTED = CRATES / "ch32_i2c_c" / "src"
+LIBRARY = CRATES / "ch32_i2c" / "src", r'^pub fn (ch32_i2c_\w+)'
+EXPORTED = CRATES / "ch32_i2c_c" / "src", r'^#\[unsafe\(no_mangle\)\]\npub extern "C" fn (\w+)'
 DEMANDS = CRATES / "ch32_i2c" / "specs" / "Demands.antt"
 FUNCTIONS = 18
 
@@ -34,12 +35,12 @@ def table(text):
     return found
 
 
-def contracts():
-    """Function -> the definition with its arguments that its one `ensures` cites, by the source."""
-    found, asked = {}, set()
-    for file in sorted(EXPORTED.glob("*.rt")):
-        for function in re.findall(r'#\[unsafe\(no_mangle\)\]\s*pub extern "C" fn (\w+)\((.*?)\) -> u64\n(.*?)\n\{', file.read_text(), re.S):
-            name, parameters, clauses = function
+def contracts(folder, head):
+    """Function -> the definition with its arguments that its one `ensures` cites, by the source; and function -> its parameters."""
+    found, taken, asked = {}, {}, set()
+    for file in sorted(folder.glob("*.rt")):
+        for name, parameters, clauses in re.findall(head + r"\((.*?)\) -> u64\n(.*?)\n\{", file.read_text(), re.S | re.M):
+            taken[name] = [" ".join(p.split()) for p in parameters.split(",") if p.strip()]
             if name in QUESTIONS:
                 if clauses != QUESTIONS[name]:
                     raise SystemExit(f"tie: {name} has another contract than its question's")
@@ -55,8 +56,8 @@ def contracts():
                 raise SystemExit(f"tie: the contract of {name} does not speak of all that is left")
             found[name] = words
     if asked != set(QUESTIONS):
-        raise SystemExit(f"tie: not in src: {', '.join(set(QUESTIONS) - asked)}")
-    return found
+        raise SystemExit(f"tie: not in {folder}: {', '.join(set(QUESTIONS) - asked)}")
+    return found, taken
 
 
 def entries(text):
@@ -97,8 +98,11 @@ def planted(rows):
 
 def main():
     text = DEMANDS.read_text()
-    rows, sources, bodies = table(text), contracts(), entries(text)
+    rows, bodies = table(text), entries(text)
+    (library, lent), (sources, taken) = contracts(*LIBRARY), contracts(*EXPORTED)
     found = differences(rows, sources, bodies)
+    found += [f"{name}: the library and its export differ" for name in sorted({*lent, *taken})
+              if (library.get(name), lent.get(name)) != (sources.get(name), taken.get(name))]
     for line in found:
         print(f"tie: {line}")
     if found:
