@@ -1,7 +1,8 @@
 """The lines that the text of the kept module may have. Any other is refused: the kit then lowers otherwise than was looked at here.
 
 A line that is plain arithmetic on numbers may be added without more ado; one that makes, compares or hands on pointers has to be thought of in pointers.py too.
-A pointer is compared in an exported function alone, and with null alone: for it the kit puts another that nobody follows, as its length is 0."""
+That a cut loses nothing is proved of the source, and the kit's text has no mark of it. So a length is never cut to the 32 bits of the target's: one
+function alone cuts to 32 bits, and what it cuts is no length."""
 import re
 import sys
 
@@ -14,6 +15,7 @@ OPERAND = r'(?:%s|-?\d+|true|false)' % V
 NAME = r'(?:"[^"]*"|[A-Za-z0-9_]+)'
 PARAMETER = r'%s(?: noundef)?(?: zeroext)? %%a\d+' % TYPE
 ALIGN = r', align \d+'
+CUTS = {'"asked::need_of"'}  # a byte's place, out of the number of what is asked for
 
 FORMS = [(kind, re.compile(pattern)) for kind, pattern in [
     ('empty', r'|;.*'),
@@ -34,18 +36,19 @@ FORMS = [(kind, re.compile(pattern)) for kind, pattern in [
     ('local', r'  (?P<to>%s) = alloca (?:\[\d+ x i8\]|%s)%s' % (V, TYPE, ALIGN)),
     ('place', r'  (?P<to>%s) = getelementptr (?:inbounds nuw )?i8, ptr (?P<of>%s), i64 (?P<by>\d+)' % (V, V)),
     ('element', r'  (?P<to>%s) = getelementptr inbounds nuw i8, ptr (?P<of>%s), i64 (?P<by>%s)' % (V, V, V)),
-    ('is null', r'  %s = icmp eq ptr (?P<of>%%a\d+), null' % V),
-    ('instead of null', r'  (?P<to>%s) = getelementptr i8, ptr (?P<of>%%a\d+), i64 %s' % (V, V)),
+    ('is null', r'  (?P<to>%s) = icmp eq ptr (?P<of>%%a\d+), null' % V),
+    ('instead of null', r'  (?P<to>%s) = getelementptr i8, ptr (?P<of>%%a\d+), i64 (?P<by>%s)' % (V, V)),
     ('load', r'  (?P<to>%s) = load (?P<type>%s), ptr (?P<at>%s)%s(?:, !range !\d)?(?:, !noundef !\d)?' % (V, RESULT, V, ALIGN)),
     ('store', r'  store (?P<type>%s) (?P<value>%s), ptr (?P<at>%s)%s' % (TYPE, OPERAND, V, ALIGN)),
     ('copy', r'  call void @llvm\.memmove\.p0\.p0\.i64\((?:ptr|ptr align \d+) (?P<into>%s), (?:ptr|ptr align \d+) (?P<of>%s), i64 (?P<length>\d+), i1 false\)' % (V, V)),
     ('zeros', r'  call void @llvm\.memset\.p0\.i64\((?:ptr|ptr align \d+) (?P<into>%s), i8 0, i64 (?P<length>\d+), i1 false\)' % V),
     ('trap', r'  call void @llvm\.trap\(\)'),
     ('call', r'  (?:(?P<to>%s) = )?call (?P<type>void|%s) @(?P<name>%s)\((?P<arguments>[^()]*)\)' % (V, RESULT, NAME)),
-    ('arithmetic', r'  %s = (?:(?:add|sub|mul)(?: nuw)?|udiv|urem|and|or|xor|shl|lshr) %s %s, %s' % (V, NUMBER, OPERAND, OPERAND)),
+    ('arithmetic', r'  (?P<to>%s) = (?P<what>(?:add|sub|mul)(?: nuw)?|udiv|urem|and|or|xor|shl|lshr) %s (?P<of>%s), (?P<by>%s)' % (V, NUMBER, OPERAND, OPERAND)),
     ('comparison', r'  %s = icmp (?:eq|ne|ult|ule) %s %s, %s' % (V, NUMBER, OPERAND, OPERAND)),
-    ('wider', r'  %s = zext i(?:1|8|16|32) %s to %s' % (V, OPERAND, NUMBER)),
-    ('narrower', r'  %s = trunc(?: nuw)? i(?:8|16|32|64) %s to i(?:1|8|16|32)' % (V, OPERAND)),
+    ('wider', r'  (?P<to>%s) = zext i(?:1|8|16|32) (?P<of>%s) to %s' % (V, OPERAND, NUMBER)),
+    ('narrower', r'  %s = trunc i(?:8|16|32|64) %s to i(?:1|8|16)' % (V, OPERAND)),
+    ('cut', r'  %s = trunc i64 %s to i32' % (V, OPERAND)),
     ('part', r'  %s = (?:extractvalue %s %s, \d+|insertvalue %s (?:%s|undef|poison), %s %s, \d+)' % (V, PAIR, V, PAIR, V, NUMBER, OPERAND)),
     ('branch', r'  br (?:label %s|i1 %s, label %s, label %s)' % (V, OPERAND, V, V)),
     ('switch', r'  switch %s %s, label %s \[' % (NUMBER, OPERAND, V)),
@@ -61,11 +64,16 @@ class Refused(Exception):
 
 def lines(path):
     """Number, form, match and text of each line."""
+    function = None
     for number, text in enumerate(open(path, encoding='utf-8'), 1):
         text = text.rstrip('\n')
         for kind, pattern in FORMS:
             match = pattern.fullmatch(text)
             if match:
+                if kind in ('exported', 'internal'):
+                    function = match['name']
+                if kind == 'cut' and function not in CUTS:
+                    raise Refused('line %d: a number is cut to 32 bits in %s: %s' % (number, function, text))
                 yield number, kind, match, text
                 break
         else:

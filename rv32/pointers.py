@@ -2,8 +2,10 @@
 
 - A pointer then fills 4 of the 8 bytes that the module leaves for it. That is harmless as long as nobody reads or writes these 8 bytes as a number. Each place
   (a local variable's or parameter's bytes) gets the types by which it is read or written; a copy and a call make two places one.
+- Zeros are written over all 8 bytes of a pointer or over none: it is null then, with 4 bytes too.
 - A local variable that is a pointer has 4 bytes and no more: no copy, and no function that gets its address, may go beyond.
 - Through pointers that were loaded from memory only single bytes are read and written. No function comes back to itself.
+- Pointers are compared with null alone, in exported functions alone: for a null, which has the length 0, the kit puts address 4096, which nobody follows.
 
 Order and paths are not looked at, so what is found may be harmless, but what is not found is not there."""
 import re
@@ -29,6 +31,7 @@ class Module:
     def __init__(self):
         self.types = defaultdict(lambda: defaultdict(set))  # object -> offset -> types
         self.same = []  # (object, offset, object, offset, length or None)
+        self.zeroed = []  # (object, offset, length)
         self.stored = set()  # objects whose address is stored in memory
         self.sizes = {}  # of local variables, on the target
         self.used = defaultdict(int)  # object -> how far into it is read or written, on the target
@@ -41,6 +44,11 @@ class Module:
         elif kind != 'i8':
             raise Refused('line %d: %s through a loaded pointer' % (number, kind))
 
+    def zeros(self, place, length, number):
+        if place[0] == LOADED:
+            raise Refused('line %d: zeros through a loaded pointer' % number)
+        self.zeroed.append((*place, length))
+        self.reach(place, length)
 
     def reach(self, place, length):
         self.used[place[0]] = max(self.used[place[0]], place[1] + length)
@@ -56,9 +64,10 @@ class Places(dict):
 def read(path):
     m = Module()
     function, where = None, Places()
+    nulls = {}  # in an exported function: what the kit makes of the question whether a parameter is null, and of which one
     for number, kind, match, text in lines(path):
         if kind in ('exported', 'internal'):
-            function, kind_of_function = match['name'], kind
+            function, exported, nulls = match['name'], kind == 'exported', {}
             m.calls[function] = set()
             where = Places((p.split()[-1], ((function, p.split()[-1]), 0)) for p in match['parameters'].split(', ') if p.startswith('ptr'))
         elif kind == 'local':
@@ -73,16 +82,19 @@ def read(path):
                 raise Refused('line %d: an element of a local variable: %s' % (number, text))
             where[match['to']] = (LOADED, 0)
         elif kind == 'is null':
-            if kind_of_function != 'exported':
+            if not exported:
                 raise Refused('line %d: a pointer is compared: %s' % (number, text))
+            nulls[match['to']] = (match['of'], 'asked')
+        elif kind == 'wider' and match['of'] in nulls:
+            nulls[match['to']] = (nulls[match['of']][0], 'number')
+        elif kind == 'arithmetic' and match['of'] in nulls and (match['what'], match['by']) == ('mul', '4096'):
+            nulls[match['to']] = (nulls[match['of']][0], 'moved')
         elif kind == 'instead of null':
-            if kind_of_function != 'exported':
+            if nulls.get(match['by']) != (match['of'], 'moved'):
                 raise Refused('line %d: pointer arithmetic: %s' % (number, text))
             where[match['to']] = where[match['of']]
         elif kind == 'zeros':
-            if where[match['into']][0] == LOADED:
-                raise Refused('line %d: zeros through a loaded pointer: %s' % (number, text))
-            m.reach(where[match['into']], int(match['length']))
+            m.zeros(where[match['into']], int(match['length']), number)
         elif kind == 'load' and match['type'].startswith('{'):
             for offset, part in parts(match['type']):
                 m.use((where[match['at']][0], where[match['at']][1] + offset), part, number)
@@ -157,6 +169,13 @@ def check_places(m):
     return pointers
 
 
+def check_zeros(m):
+    for place, begin, length in m.zeroed:
+        for offset, types in m.types[place].items():
+            if 'ptr' in types and begin < offset + 8 and offset < begin + length and not begin <= offset <= begin + length - 8:
+                raise Refused('%s %s: a pointer at %d, and %d zeros at %d' % (*place, offset, length, begin))
+
+
 def check_sizes(m):
     for place, size in m.sizes.items():
         if m.used[place] > size:
@@ -184,6 +203,7 @@ def main(path):
     depth = check_calls(m)  # without recursion what follows comes to an end
     join(m)
     check_loaded(m)
+    check_zeros(m)
     check_sizes(m)
     print('%d places that hold pointers, 0 used as numbers too; %d functions, deepest chain %d' % (check_places(m), len(m.calls), depth))
 

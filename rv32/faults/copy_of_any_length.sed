@@ -1,2 +1,2 @@
 # to32: a copy whose length is not a constant
-0,/memmove.*i64 16, i1 false/s/i64 16, i1 false/i64 %length, i1 false/
+0,/memmove.*i64 16, i1 false/s/\(memmove.*\)i64 16, i1 false/\1i64 %length, i1 false/

@@ -1,0 +1,2 @@
+# pointers: a null is moved by another step than the kit's
+/^define noundef i64 @ch32_i2c_listen_step(/,/^}/s/^\(  %r[0-9]* = mul i64 %r[0-9]*, \)4096$/\18/
