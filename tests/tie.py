@@ -1,6 +1,6 @@
 #!/usr/bin/env python3
 """The tie between the code and the demands: the table at the head of Demands.antt names for each exported function the definition that its
-contract cites. It is compared with the contracts in src/ and with `entry_of`, which the demands are about. Then wrong tables are tried, and
+contract cites. It is compared with the contracts in ch32_i2c_c/src and with `entry_of`, which the demands are about. Then wrong tables are tried, and
 each has to be refused."""
 import re
 import sys
