@@ -1,8 +1,8 @@
 """The lines that the text of the kept module may have. Any other is refused: the kit then lowers otherwise than was looked at here.
 
 A line that is plain arithmetic on numbers may be added without more ado; one that makes, compares or hands on pointers has to be thought of in pointers.py too.
-That a cut loses nothing is proved of the source, and the kit's text has no mark of it. So a length is never cut to the 32 bits of the target's: one
-function alone cuts to 32 bits, and what it cuts is no length."""
+That a cut loses nothing is proved of the source, and the kit's text has no mark of it. So 64 bits, which lengths have, are cut in these functions alone; to the
+target's 32 bits in one, and there it is no length."""
 import re
 import sys
 
@@ -15,7 +15,16 @@ OPERAND = r'(?:%s|-?\d+|true|false)' % V
 NAME = r'(?:"[^"]*"|[A-Za-z0-9_]+)'
 PARAMETER = r'%s(?: noundef)?(?: zeroext)? %%a\d+' % TYPE
 ALIGN = r', align \d+'
-CUTS = {'"asked::need_of"'}  # a byte's place, out of the number of what is asked for
+CUTS = {  # function -> to how many bits it cuts 64
+    # a length or a sum of lengths that is at most 65,535
+    'master_lent::lent::look_read': '16', 'master_lent::lent::look_write': '16', 'master_lent::lent::look_write_read': '16',
+    'master_call::frame::read_step': '16', 'master_call::frame::write_step': '16', 'master_call::transaction::transaction_step': '16',
+    'master_call::write_read::write_read_step': '16', 'slave_step::step::step': '16',
+    # a divider that is at most 4095
+    'timing::timing::timing': '16', 'speed_window::fastest::fastest': '16',
+    # parts of the number that is handed to C: an error, a value; a register's number, a word, a byte's place
+    'access::ending::ending_in': '8 16', 'asked::need_of': '8 16 32',
+}
 
 FORMS = [(kind, re.compile(pattern)) for kind, pattern in [
     ('empty', r'|;.*'),
@@ -47,8 +56,8 @@ FORMS = [(kind, re.compile(pattern)) for kind, pattern in [
     ('arithmetic', r'  (?P<to>%s) = (?P<what>(?:add|sub|mul)(?: nuw)?|udiv|urem|and|or|xor|shl|lshr) %s (?P<of>%s), (?P<by>%s)' % (V, NUMBER, OPERAND, OPERAND)),
     ('comparison', r'  %s = icmp (?:eq|ne|ult|ule) %s %s, %s' % (V, NUMBER, OPERAND, OPERAND)),
     ('wider', r'  (?P<to>%s) = zext i(?:1|8|16|32) (?P<of>%s) to %s' % (V, OPERAND, NUMBER)),
-    ('narrower', r'  %s = trunc i(?:8|16|32|64) %s to i(?:1|8|16)' % (V, OPERAND)),
-    ('cut', r'  %s = trunc i64 %s to i32' % (V, OPERAND)),
+    ('narrower', r'  %s = trunc i(?:8|16|32) %s to i(?:1|8|16)' % (V, OPERAND)),
+    ('cut', r'  %s = trunc i64 %s to i(?P<bits>\d+)' % (V, OPERAND)),
     ('part', r'  %s = (?:extractvalue %s %s, \d+|insertvalue %s (?:%s|undef|poison), %s %s, \d+)' % (V, PAIR, V, PAIR, V, NUMBER, OPERAND)),
     ('branch', r'  br (?:label %s|i1 %s, label %s, label %s)' % (V, OPERAND, V, V)),
     ('switch', r'  switch %s %s, label %s \[' % (NUMBER, OPERAND, V)),
@@ -71,9 +80,9 @@ def lines(path):
             match = pattern.fullmatch(text)
             if match:
                 if kind in ('exported', 'internal'):
-                    function = match['name']
-                if kind == 'cut' and function not in CUTS:
-                    raise Refused('line %d: a number is cut to 32 bits in %s: %s' % (number, function, text))
+                    function = match['name'].strip('"')
+                if kind == 'cut' and match['bits'] not in CUTS.get(function, '').split():
+                    raise Refused('line %d: 64 bits are cut to %s in %s: %s' % (number, match['bits'], function, text))
                 yield number, kind, match, text
                 break
         else:

@@ -13,8 +13,5 @@ returns-in-2 c = rw (c.in-2.is, c.of_number-in-2.ensures)
 pub returns-in-3 : goal.returns-in-3
 returns-in-3 c = rw c.in-3.is
 
-pub returns-in-4 : goal.returns-in-4
-returns-in-4 c = rw c.in-4.is
-
 pub returns-in-5 : goal.returns-in-5
 returns-in-5 c = rw c.in-5.is

@@ -16,13 +16,6 @@ returns-in-Write c =
       holds_words = rw c.in-Write.is (search rules);
     }
 
-pub returns-in-Clock : goal.returns-in-Clock
-returns-in-Clock c =
-    record {
-      value = rw c.in-Clock.is;
-      holds_words = rw c.in-Clock.is tt;
-    }
-
 pub returns-in-Send : goal.returns-in-Send
 returns-in-Send c =
     record {

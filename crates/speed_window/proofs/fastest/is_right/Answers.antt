@@ -8,6 +8,3 @@ overflow_mul-inside c = record { fits = long_words_fit _ _ (omega arith) (omega 
 
 pub overflow_mul-inside-2 : goal.overflow_mul-inside-2
 overflow_mul-inside-2 c = record { fits = long_words_fit _ _ (omega arith) (omega arith) }
-
-pub returns : goal.returns
-returns c = rw c.clocks-clocks.ensures
