@@ -1,8 +1,8 @@
 """The lines that the text of the kept module may have. Any other is refused: the kit then lowers otherwise than was looked at here.
 
 A line that is plain arithmetic on numbers may be added without more ado; one that makes, compares or hands on pointers has to be thought of in pointers.py too.
-That a cut loses nothing is proved of the source, and the kit's text has no mark of it. So 64 bits, which lengths have, are cut in these functions alone; to the
-target's 32 bits in one, and there it is no length."""
+That a cut loses nothing is proved of the source, and the kit's text has no mark of it. So 64 bits, which lengths have, are cut (`trunc`) in the functions of CUTS alone; to
+the target's 32 bits in one, and there it is no length."""
 import re
 import sys
 
@@ -10,7 +10,8 @@ V = r'%[A-Za-z0-9_.]+'
 NUMBER = r'i(?:1|8|16|32|64)'
 PAIR = r'\{ %s(?:, %s)+ \}' % (NUMBER, NUMBER)  # what a small struct of numbers is handed back as
 TYPE = r'(?:%s|ptr)' % NUMBER
-RESULT = r'(?:%s|ptr|%s)' % (NUMBER, PAIR)
+RESULT = r'(?:%s|%s)' % (NUMBER, PAIR)
+LOADED = r'(?:%s|ptr)' % RESULT
 OPERAND = r'(?:%s|-?\d+|true|false)' % V
 NAME = r'(?:"[^"]*"|[A-Za-z0-9_]+)'
 PARAMETER = r'%s(?: noundef)?(?: zeroext)? %%a\d+' % TYPE
@@ -47,7 +48,7 @@ FORMS = [(kind, re.compile(pattern)) for kind, pattern in [
     ('element', r'  (?P<to>%s) = getelementptr inbounds nuw i8, ptr (?P<of>%s), i64 (?P<by>%s)' % (V, V, V)),
     ('is null', r'  (?P<to>%s) = icmp eq ptr (?P<of>%%a\d+), null' % V),
     ('instead of null', r'  (?P<to>%s) = getelementptr i8, ptr (?P<of>%%a\d+), i64 (?P<by>%s)' % (V, V)),
-    ('load', r'  (?P<to>%s) = load (?P<type>%s), ptr (?P<at>%s)%s(?:, !range !\d)?(?:, !noundef !\d)?' % (V, RESULT, V, ALIGN)),
+    ('load', r'  (?P<to>%s) = load (?P<type>%s), ptr (?P<at>%s)%s(?:, !range !\d)?(?:, !noundef !\d)?' % (V, LOADED, V, ALIGN)),
     ('store', r'  store (?P<type>%s) (?P<value>%s), ptr (?P<at>%s)%s' % (TYPE, OPERAND, V, ALIGN)),
     ('copy', r'  call void @llvm\.memmove\.p0\.p0\.i64\((?:ptr|ptr align \d+) (?P<into>%s), (?:ptr|ptr align \d+) (?P<of>%s), i64 (?P<length>\d+), i1 false\)' % (V, V)),
     ('zeros', r'  call void @llvm\.memset\.p0\.i64\((?:ptr|ptr align \d+) (?P<into>%s), i8 0, i64 (?P<length>\d+), i1 false\)' % V),

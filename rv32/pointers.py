@@ -2,16 +2,17 @@
 
 - A pointer then fills 4 of the 8 bytes that the module leaves for it. That is harmless as long as nobody reads or writes these 8 bytes as a number. Each place
   (a local variable's or parameter's bytes) gets the types by which it is read or written; a copy and a call make two places one.
-- Zeros are written over all 8 bytes of a pointer or over none: it is null then, with 4 bytes too.
+- Zeros are written over all 8 bytes of a pointer or over none, and all of them are copied or none: so it is null, or the same, with 4 bytes too.
 - A local variable that is a pointer has 4 bytes and no more: no copy, and no function that gets its address, may go beyond.
 - Through pointers that were loaded from memory only single bytes are read and written. No function comes back to itself.
-- Pointers are compared with null alone, in exported functions alone: for a null, which has the length 0, the kit puts address 4096, which nobody follows.
+- Pointers are compared with null alone, in exported functions alone: for a null, which has the length 0, the kit puts address 4096, which nobody follows. The answer
+  is used for nothing else.
 
 Order and paths are not looked at, so what is found may be harmless, but what is not found is not there."""
 import re
 from collections import defaultdict
 
-from forms import Refused, lines, run
+from forms import V, Refused, lines, run
 
 WIDTH = {'i1': 1, 'i8': 1, 'i16': 2, 'i32': 4, 'i64': 8, 'ptr': 8}  # what the module leaves
 WIDTH_32 = {**WIDTH, 'ptr': 4}  # what the target takes
@@ -31,7 +32,7 @@ class Module:
     def __init__(self):
         self.types = defaultdict(lambda: defaultdict(set))  # object -> offset -> types
         self.same = []  # (object, offset, object, offset, length or None)
-        self.zeroed = []  # (object, offset, length)
+        self.zeroed = defaultdict(set)  # object -> (offset, length)
         self.stored = set()  # objects whose address is stored in memory
         self.sizes = {}  # of local variables, on the target
         self.used = defaultdict(int)  # object -> how far into it is read or written, on the target
@@ -47,7 +48,7 @@ class Module:
     def zeros(self, place, length, number):
         if place[0] == LOADED:
             raise Refused('line %d: zeros through a loaded pointer' % number)
-        self.zeroed.append((*place, length))
+        self.zeroed[place[0]].add((place[1], length))
         self.reach(place, length)
 
     def reach(self, place, length):
@@ -64,7 +65,11 @@ class Places(dict):
 def read(path):
     m = Module()
     function, where = None, Places()
-    nulls = {}  # in an exported function: what the kit makes of the question whether a parameter is null, and of which one
+    nulls = {}  # in an exported function: the steps from the question whether a parameter is null to the address that is put for it
+
+    def step(name):
+        return nulls.get(name, (None, None))[1]
+
     for number, kind, match, text in lines(path):
         if kind in ('exported', 'internal'):
             function, exported, nulls = match['name'], kind == 'exported', {}
@@ -85,14 +90,16 @@ def read(path):
             if not exported:
                 raise Refused('line %d: a pointer is compared: %s' % (number, text))
             nulls[match['to']] = (match['of'], 'asked')
-        elif kind == 'wider' and match['of'] in nulls:
+        elif kind == 'wider' and step(match['of']) == 'asked':
             nulls[match['to']] = (nulls[match['of']][0], 'number')
-        elif kind == 'arithmetic' and match['of'] in nulls and (match['what'], match['by']) == ('mul', '4096'):
+        elif kind == 'arithmetic' and step(match['of']) == 'number' and (match['what'], match['by']) == ('mul', '4096'):
             nulls[match['to']] = (nulls[match['of']][0], 'moved')
         elif kind == 'instead of null':
             if nulls.get(match['by']) != (match['of'], 'moved'):
                 raise Refused('line %d: pointer arithmetic: %s' % (number, text))
             where[match['to']] = where[match['of']]
+        elif nulls.keys() & set(re.findall(V, text)):
+            raise Refused('line %d: whether a pointer is null is used otherwise: %s' % (number, text))
         elif kind == 'zeros':
             m.zeros(where[match['into']], int(match['length']), number)
         elif kind == 'load' and match['type'].startswith('{'):
@@ -118,13 +125,11 @@ def read(path):
             for at, argument in enumerate(a for a in match['arguments'].split(', ') if a):
                 if argument.startswith('ptr '):
                     m.same.append(((match['name'], '%%a%d' % at), 0, *where[argument.split()[-1]], None))
-            if match['type'] == 'ptr':
-                where[match['to']] = (LOADED, 0)
     return m
 
 
 def join(m):
-    """Types go over copies and calls, both ways, stored addresses over calls, and how far is read from a parameter to what is lent, until nothing changes."""
+    """Types and zeros go over copies and calls, both ways, stored addresses over calls, and how far is read from a parameter to what is lent, until nothing changes."""
     changed = True
     while changed:
         changed = False
@@ -138,6 +143,12 @@ def join(m):
                 m.used[b] = j + m.used[a]
                 changed = True
             for x, xi, y, yj in ((a, i, b, j), (b, j, a, i)):
+                for offset, zeros in list(m.zeroed[x]):
+                    begin, end = max(offset, xi), offset + zeros if length is None else min(offset + zeros, xi + length)
+                    there = (begin - xi + yj, end - begin)
+                    if begin < end and there not in m.zeroed[y]:
+                        m.zeroed[y].add(there)
+                        changed = True
                 for offset, types in list(m.types[x].items()):
                     if offset >= xi and (length is None or offset < xi + length):
                         to = m.types[y][offset - xi + yj]
@@ -169,11 +180,14 @@ def check_places(m):
     return pointers
 
 
-def check_zeros(m):
-    for place, begin, length in m.zeroed:
+def check_whole(m):
+    """Of a pointer all 8 bytes are zeroed or copied, or none."""
+    parts = [(place, begin, length, 'bytes copied') for a, i, b, j, length in m.same if length is not None for place, begin in ((a, i), (b, j))]
+    parts += [(place, *zeros, 'zeros') for place, found in m.zeroed.items() for zeros in sorted(found)]
+    for place, begin, length, what in parts:
         for offset, types in m.types[place].items():
             if 'ptr' in types and begin < offset + 8 and offset < begin + length and not begin <= offset <= begin + length - 8:
-                raise Refused('%s %s: a pointer at %d, and %d zeros at %d' % (*place, offset, length, begin))
+                raise Refused('%s %s: a pointer at %d, and %d %s at %d' % (*place, offset, length, what, begin))
 
 
 def check_sizes(m):
@@ -203,7 +217,7 @@ def main(path):
     depth = check_calls(m)  # without recursion what follows comes to an end
     join(m)
     check_loaded(m)
-    check_zeros(m)
+    check_whole(m)
     check_sizes(m)
     print('%d places that hold pointers, 0 used as numbers too; %d functions, deepest chain %d' % (check_places(m), len(m.calls), depth))
 
