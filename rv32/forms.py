@@ -11,7 +11,7 @@ NUMBER = r'i(?:1|8|16|32|64)'
 PAIR = r'\{ %s(?:, %s)+ \}' % (NUMBER, NUMBER)  # what a small struct of numbers is handed back as
 TYPE = r'(?:%s|ptr)' % NUMBER
 RESULT = r'(?:%s|%s)' % (NUMBER, PAIR)
-LOADED = r'(?:%s|ptr)' % RESULT
+IN_MEMORY = r'(?:%s|ptr)' % RESULT
 OPERAND = r'(?:%s|-?\d+|true|false)' % V
 NAME = r'(?:"[^"]*"|[A-Za-z0-9_]+)'
 PARAMETER = r'%s(?: noundef)?(?: zeroext)? %%a\d+' % TYPE
@@ -48,7 +48,7 @@ FORMS = [(kind, re.compile(pattern)) for kind, pattern in [
     ('element', r'  (?P<to>%s) = getelementptr inbounds nuw i8, ptr (?P<of>%s), i64 (?P<by>%s)' % (V, V, V)),
     ('is null', r'  (?P<to>%s) = icmp eq ptr (?P<of>%%a\d+), null' % V),
     ('instead of null', r'  (?P<to>%s) = getelementptr i8, ptr (?P<of>%%a\d+), i64 (?P<by>%s)' % (V, V)),
-    ('load', r'  (?P<to>%s) = load (?P<type>%s), ptr (?P<at>%s)%s(?:, !range !\d)?(?:, !noundef !\d)?' % (V, LOADED, V, ALIGN)),
+    ('load', r'  (?P<to>%s) = load (?P<type>%s), ptr (?P<at>%s)%s(?:, !range !\d)?(?:, !noundef !\d)?' % (V, IN_MEMORY, V, ALIGN)),
     ('store', r'  store (?P<type>%s) (?P<value>%s), ptr (?P<at>%s)%s' % (TYPE, OPERAND, V, ALIGN)),
     ('copy', r'  call void @llvm\.memmove\.p0\.p0\.i64\((?:ptr|ptr align \d+) (?P<into>%s), (?:ptr|ptr align \d+) (?P<of>%s), i64 (?P<length>\d+), i1 false\)' % (V, V)),
     ('zeros', r'  call void @llvm\.memset\.p0\.i64\((?:ptr|ptr align \d+) (?P<into>%s), i8 0, i64 (?P<length>\d+), i1 false\)' % V),
