@@ -7,32 +7,32 @@ ghost use Rattle.access.specs.Endings.{error_number, ending_error, ending_value,
 // `ZeroLengthTransfer`, 7, is never given.)
 #[derive(Clone, Copy)]
 pub enum Error {
-    Bus,
-    Arbitration,
-    Nack,
-    Timeout,
-    Crc,
-    Overrun,
-    BufferTooLong,
-    InvalidAddress,
-    InvalidFrequency,
-    DividerTooLarge,
-    InputTooSlow,
-    TooManyOperations,
-    LengthMismatch,
-    InvalidState,
-    InvalidArgument,
-    ReservedAddress,
-    BlockLength,
-    WrongCode,
-    NoSuchSpeed,
-    NoAllowance,
-    TooManyBuses,
-    TooManyItems,
-    NoOrder,
-    NoSuchDate,
-    WrongDate,
-    MapLength,
+    Bus = 1,
+    Arbitration = 2,
+    Nack = 3,
+    Timeout = 4,
+    Crc = 5,
+    Overrun = 6,
+    BufferTooLong = 8,
+    InvalidAddress = 9,
+    InvalidFrequency = 10,
+    DividerTooLarge = 11,
+    InputTooSlow = 12,
+    TooManyOperations = 13,
+    LengthMismatch = 14,
+    InvalidState = 15,
+    InvalidArgument = 16,
+    ReservedAddress = 17,
+    BlockLength = 18,
+    WrongCode = 19,
+    NoSuchSpeed = 20,
+    NoAllowance = 21,
+    TooManyBuses = 22,
+    TooManyItems = 23,
+    NoOrder = 24,
+    NoSuchDate = 25,
+    WrongDate = 26,
+    MapLength = 27,
 }
 
 // What is known of an error: an error check says which flags it cleared.
@@ -50,42 +50,14 @@ pub struct Outcome {
     pub second: u16,
 }
 
-#[derive(Clone, Copy)]
-pub enum Ending {
-    Done(Outcome),
-    Failed(Failure),
-}
+// Done, with what it returns, or failed.
+pub type Ending = Result<Outcome, Failure>;
 
-pub fn error_number(error: Error) -> u8
-    ensures { result ≡ error_number error }
-{
-    match error {
-        Error::Bus => 1,
-        Error::Arbitration => 2,
-        Error::Nack => 3,
-        Error::Timeout => 4,
-        Error::Crc => 5,
-        Error::Overrun => 6,
-        Error::BufferTooLong => 8,
-        Error::InvalidAddress => 9,
-        Error::InvalidFrequency => 10,
-        Error::DividerTooLarge => 11,
-        Error::InputTooSlow => 12,
-        Error::TooManyOperations => 13,
-        Error::LengthMismatch => 14,
-        Error::InvalidState => 15,
-        Error::InvalidArgument => 16,
-        Error::ReservedAddress => 17,
-        Error::BlockLength => 18,
-        Error::WrongCode => 19,
-        Error::NoSuchSpeed => 20,
-        Error::NoAllowance => 21,
-        Error::TooManyBuses => 22,
-        Error::TooManyItems => 23,
-        Error::NoOrder => 24,
-        Error::NoSuchDate => 25,
-        Error::WrongDate => 26,
-        Error::MapLength => 27,
+impl From<Error> for u8 {
+    ghost from_gives = { λ e n. n ≡ error_number e };
+
+    fn from(error: Error) -> u8 {
+        error as u8
     }
 }
 
@@ -94,11 +66,8 @@ pub fn ending_error(ending: Ending) -> u8
     ensures { result ≡ ending_error ending }
 {
     match ending {
-        Ending::Done(_) => 0,
-        Ending::Failed(failure) => {
-            let error = failure.error;
-            error_number(error)
-        }
+        Ok(_) => 0,
+        Err(failure) => u8::from(failure.error),
     }
 }
 
@@ -107,8 +76,8 @@ pub fn ending_value(ending: Ending) -> u16
     ensures { result ≡ ending_value ending }
 {
     match ending {
-        Ending::Done(outcome) => outcome.value,
-        Ending::Failed(_) => 0,
+        Ok(outcome) => outcome.value,
+        Err(_) => 0,
     }
 }
 
@@ -117,8 +86,8 @@ pub fn ending_extra(ending: Ending) -> u16
     ensures { result ≡ ending_extra ending }
 {
     match ending {
-        Ending::Done(outcome) => outcome.second,
-        Ending::Failed(failure) => failure.flags,
+        Ok(outcome) => outcome.second,
+        Err(failure) => failure.flags,
     }
 }
 
@@ -133,21 +102,19 @@ pub fn words_number(error: u8, value: u16, extra: u16) -> u64
     error as u64 * 256 + value as u64 * 65536 + extra as u64 * 281474976710656
 }
 
-// An ending as C sees it. (Branch by branch, so that the compiler inlines what makes C's number.)
+// An ending as C sees it. (No `From`: neither type is of this crate. Branch by branch, so that the compiler inlines what makes C's number.)
 pub fn ending_number(ending: Ending) -> u64
     ensures value { result ≡ ending_number ending }
     ensures end_holds_words { EndHoldsWords ending }
 {
     match ending {
-        Ending::Done(outcome) => words_number(0, outcome.value, outcome.second),
-        Ending::Failed(failure) => {
-            let error = failure.error;
-            words_number(error_number(error), 0, failure.flags)
-        }
+        Ok(outcome) => words_number(0, outcome.value, outcome.second),
+        Err(failure) => words_number(u8::from(failure.error), 0, failure.flags),
     }
 }
 
-// The error of a number.
+// The error of a number, and the last of one that no error has. (Total, as `specs/Endings.antt` says it: `TryFrom` would need an error that
+// nobody reads.)
 fn error_of(number: u8) -> Error
     ensures { result ≡ error_of number }
 {
@@ -188,7 +155,7 @@ pub fn ending_in(number: u64) -> Ending
     let error = (number / 256 % 256) as u8;
     if error != 0 {
         let flags = (number / 281474976710656 % 65536) as u16;
-        return Ending::Failed(flagged(error_of(error), flags));
+        return Err(flagged(error_of(error), flags));
     }
     let value = (number / 65536 % 65536) as u16;
     let second = (number / 4294967296 % 65536) as u16;
@@ -203,6 +170,7 @@ pub fn is_plain(error: u8, value: u16) -> bool
 }
 
 // Whether these are the words of an ending. No error is number 7.
+#[tactic(auto, using(crate::proofs::EndingLaws::ending_range))]
 pub fn is_ending(error: u8, value: u16, extra: u16) -> bool
     ensures { result ≡ is_ending error value extra }
 {
@@ -224,10 +192,18 @@ pub fn flagged(error: Error, flags: u16) -> Failure
 }
 
 // An error that no error check found.
+impl From<Error> for Failure {
+    ghost from_gives = { λ e f. f ≡ failure_of e };
+
+    fn from(error: Error) -> Failure {
+        flagged(error, 0)
+    }
+}
+
 pub fn failure_of(error: Error) -> Failure
     ensures { result ≡ failure_of error }
 {
-    flagged(error, 0)
+    Failure::from(error)
 }
 
 // Done, with nothing to return.
@@ -248,11 +224,11 @@ pub fn returned(value: u16) -> Ending
 pub fn returned_both(value: u16, second: u16) -> Ending
     ensures { result ≡ returned_both value second }
 {
-    Ending::Done(Outcome { value, second })
+    Ok(Outcome { value, second })
 }
 
 pub fn failed(error: Error) -> Ending
     ensures { result ≡ failed error }
 {
-    Ending::Failed(failure_of(error))
+    Err(Failure::from(error))
 }

@@ -1,5 +1,6 @@
 -- A lemma for each combinator of Program.antt: alike parts make alike wholes.
 -- Assumes nothing.
+use Rattle.std.specs.Prelude.{Err}
 use mathlib.Core.Path.{◌≡◌, refl, sym, ap, ◌∙◌}
 use mathlib.Core.Bool.{Bool, true, false, cond}
 use mathlib.Core.List.{List, [], ◌∷◌}
@@ -8,9 +9,7 @@ use Prim.Native.Nat.{ℕ, zero, suc}
 use Rattle.registers.specs.declared.register.Register.{Register}
 use Rattle.access.specs.declared.ending.Error.TheVariants.{Timeout}
 use Rattle.access.specs.declared.ending.Failure.{Failure}
-use Rattle.access.specs.declared.ending.Ending.{Ending}
-use Rattle.access.specs.declared.ending.Ending.TheVariants.{Failed}
-use Rattle.access.specs.Endings.{failure_of, failed}
+use Rattle.access.specs.Endings.{Ending, failure_of, failed}
 use Rattle.access.specs.Program.{Access, read, Program, finish, access, keep, cut, Blocking, pure, throw, read_register, write_register, modify, send_data, store, when◌then◌else◌, only_if, or_else, on_drop, while, for_each, spin, Turn, continue, return, turned, spin_from, loop, late, check_timeout, call_of, ◌>>◌, ◌>>=◌}
 use Rattle.access.specs.Record.{Event, Shown, no_more, event, arrival, answer_to, shown_of}
 use Rattle.access.proofs.Choice.{first_true, second_true, both_true}
@@ -115,7 +114,7 @@ module _ {forget : Ending → Ending} {allowed : Access → ℕ → Bool} where
   loop_alike s f = record { like = λ n H K. turns_from n s (λ s next next' N. (f s).like n H (λ r. turned_like r N K)) }
 
   -- an error of which nothing is forgotten
-  pub throw_alike : {A : Type 0} (f : Failure) → forget (Failed f) ≡ Failed f → Alike forget allowed (throw {A = A} f) (throw {A = A} f)
+  pub throw_alike : {A : Type 0} (f : Failure) → forget (Err f) ≡ Err f → Alike forget allowed (throw {A = A} f) (throw {A = A} f)
   throw_alike f e = record { like = λ n H K. H.after f f e }
 
   pub timeout_alike : forget (failed Timeout) ≡ failed Timeout → Alike forget allowed check_timeout check_timeout

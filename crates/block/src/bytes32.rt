@@ -1,5 +1,5 @@
 // The 32 bytes of a block, numbers low byte first.
-ghost use Rattle.std.specs.Prelude.{◌≡◌, ◌+◌, ◌*◌, ◌%◌, ◌/◌, ◌≤◌, length};
+ghost use Rattle.std.specs.Prelude.{◌≡◌, ◌+◌, ◌*◌, ◌%◌, ◌/◌, ◌≤◌, ℕ, List, length};
 ghost use Rattle.block.specs.Bytes32.{word_at, with_word, long_at, fields_of, bytes_of, block_size};
 
 use crate::at;
@@ -13,6 +13,118 @@ fn word(low: u8, high: u8) -> u16
 {
     low as u16 + high as u16 * 256
 }
+
+// A block as its caller lends it: 32 bytes.
+pub trait Block {
+    ghost bytes: { Self → List ℕ };
+
+    // Two bytes from a place on, low byte first.
+    fn word(&self, at: usize) -> u16
+        requires { at + 2 ≤ block_size }
+        ensures { result ≡ word_at (bytes self.now) at };
+
+    // Four bytes from a place on.
+    fn long(&self, at: usize) -> u32
+        requires { at + 4 ≤ block_size }
+        ensures { result ≡ long_at (bytes self.now) at };
+
+    fn put_word(&mut self, at: usize, word: u16)
+        requires { at + 2 ≤ block_size }
+        ensures { bytes self.new ≡ with_word (bytes self.old) at word };
+}
+
+impl Block for [u8; 32] {
+    ghost bytes = { λ block. block };
+
+    fn word(&self, at: usize) -> u16 {
+        word(self[at], self[at + 1])
+    }
+
+    fn long(&self, at: usize) -> u32 {
+        self.word(at) as u32 + self.word(at + 2) as u32 * 65536
+    }
+
+    fn put_word(&mut self, at: usize, word: u16) {
+        self[at] = (word % 256) as u8;
+        self[at + 1] = (word / 256) as u8;
+    }
+}
+
+// What a block says.
+impl From<&[u8; 32]> for Fields {
+    ghost from_gives = { λ block f. f ≡ fields_of block.now };
+
+    #[tactic(auto, unfolding(crate::specs::Bytes32::fields_of))]
+    fn from(block: &[u8; 32]) -> Fields {
+        Fields {
+            entry: block[at::ENTRY],
+            chip: block[at::CHIP],
+            option: block[at::OPTION],
+            stage: block[at::GROUP],
+            what: block[at::WHAT],
+            phase: block[at::PHASE],
+            marks: block[at::MARKS],
+            error: block[at::ERROR],
+            address: block.word(at::ADDRESS),
+            run: block.word(at::RUN),
+            left: block.word(at::LEFT),
+            place: block.word(at::PLACE),
+            word: block.word(at::WORD),
+            divider: block.word(at::DIVIDER),
+            rise: block.word(at::RISE),
+            value: block.word(at::VALUE),
+            count: block.long(at::COUNT),
+            second: block[at::SECOND],
+            mhz: block[at::MHZ],
+            extra: block.word(at::EXTRA),
+        }
+    }
+}
+
+// The bytes that say it.
+impl From<Fields> for [u8; 32] {
+    ghost from_gives = { λ f block. block ≡ bytes_of f };
+
+    #[tactic(auto, unfolding(crate::specs::Bytes32::bytes_of))]
+    fn from(f: Fields) -> [u8; 32] {
+        [
+            f.entry,
+            f.chip,
+            f.option,
+            f.stage,
+            f.what,
+            f.phase,
+            f.marks,
+            f.error,
+            (f.address % 256) as u8,
+            (f.address / 256) as u8,
+            (f.run % 256) as u8,
+            (f.run / 256) as u8,
+            (f.left % 256) as u8,
+            (f.left / 256) as u8,
+            (f.place % 256) as u8,
+            (f.place / 256) as u8,
+            (f.word % 256) as u8,
+            (f.word / 256) as u8,
+            (f.divider % 256) as u8,
+            (f.divider / 256) as u8,
+            (f.rise % 256) as u8,
+            (f.rise / 256) as u8,
+            (f.value % 256) as u8,
+            (f.value / 256) as u8,
+            (f.count % 65536 % 256) as u8,
+            (f.count % 65536 / 256) as u8,
+            (f.count / 65536 % 256) as u8,
+            (f.count / 65536 / 256) as u8,
+            f.second,
+            f.mhz,
+            (f.extra % 256) as u8,
+            (f.extra / 256) as u8,
+        ]
+    }
+}
+
+// ---- the same, of a slice that is as long as a block
 
 pub fn word_at(block: &[u8], at: usize) -> u16
     requires { at + 2 ≤ length block.now }
@@ -29,6 +141,7 @@ pub fn long_at(block: &[u8], at: usize) -> u32
 }
 
 // A word, low byte first, in two bytes from a place on.
+#[tactic(auto, using(crate::proofs::Codec::set_length))]
 pub fn put_word(block: &mut [u8], at: usize, word: u16)
     requires block_len { length block.old ≡ block_size }
     requires at_bound { at + 2 ≤ block_size }
@@ -40,6 +153,7 @@ pub fn put_word(block: &mut [u8], at: usize, word: u16)
 }
 
 // What a block says.
+#[tactic(auto, unfolding(crate::specs::Bytes32::fields_of))]
 pub fn fields(block: &[u8]) -> Fields
     requires { length block.now ≡ block_size }
     ensures { result ≡ fields_of block.now }
@@ -68,64 +182,13 @@ pub fn fields(block: &[u8]) -> Fields
     }
 }
 
-fn high(x: u16) -> u8
-    ensures { result ≡ x / 256 }
-{
-    (x / 256) as u8
-}
-
-fn top(x: u32) -> u8
-    ensures { result ≡ x / 65536 / 256 }
-{
-    (x / 65536 / 256) as u8
-}
-
-// The bytes that say it.
-fn image(f: Fields) -> [u8; 32]
-    ensures { result ≡ bytes_of f }
-{
-    [
-        f.entry,
-        f.chip,
-        f.option,
-        f.stage,
-        f.what,
-        f.phase,
-        f.marks,
-        f.error,
-        (f.address % 256) as u8,
-        high(f.address),
-        (f.run % 256) as u8,
-        high(f.run),
-        (f.left % 256) as u8,
-        high(f.left),
-        (f.place % 256) as u8,
-        high(f.place),
-        (f.word % 256) as u8,
-        high(f.word),
-        (f.divider % 256) as u8,
-        high(f.divider),
-        (f.rise % 256) as u8,
-        high(f.rise),
-        (f.value % 256) as u8,
-        high(f.value),
-        (f.count % 65536 % 256) as u8,
-        (f.count % 65536 / 256) as u8,
-        (f.count / 65536 % 256) as u8,
-        top(f.count),
-        f.second,
-        f.mhz,
-        (f.extra % 256) as u8,
-        high(f.extra),
-    ]
-}
-
 // Leaves in a block what it is to say.
 pub fn put(block: &mut [u8], f: Fields)
     requires { length block.old ≡ block_size }
     ensures { block.new ≡ bytes_of f }
 {
-    let bytes = image(f);
+    let bytes = <[u8; 32]>::from(f);
+    // by hand: `copy_from_slice` makes slices in memory, which the conversion to RV32 refuses
     for i in 0..BLOCK_SIZE {
         block[i] = bytes[i];
     }

@@ -1,8 +1,8 @@
 // What a block says, number by number: one layout for all calls. docs/STATE.md says which call uses what.
 ghost use Rattle.std.specs.Prelude.{◌≡◌};
-ghost use Rattle.block.specs.Fields.{same_call, same_stage, same_ending, same_run, same_words, same_rest, same_extras, same_fields};
+ghost use Rattle.block.specs.Fields.{same_fields};
 
-#[derive(Clone, Copy)]
+#[derive(Clone, Copy, PartialEq, Eq)]
 pub struct Fields {
     // The entry: 1 to 9, in the order of the C header.
     pub entry: u8,
@@ -36,54 +36,10 @@ pub struct Fields {
     pub extra: u16,
 }
 
-fn same_call(a: Fields, b: Fields) -> bool
-    ensures { result ≡ same_call a b }
-{
-    (a.entry == b.entry) & ((a.chip == b.chip) & (a.option == b.option))
-}
-
-fn same_stage(a: Fields, b: Fields) -> bool
-    ensures { result ≡ same_stage a b }
-{
-    (a.stage == b.stage) & ((a.what == b.what) & (a.phase == b.phase))
-}
-
-fn same_ending(a: Fields, b: Fields) -> bool
-    ensures { result ≡ same_ending a b }
-{
-    (a.error == b.error) & ((a.value == b.value) & (a.extra == b.extra))
-}
-
-fn same_run(a: Fields, b: Fields) -> bool
-    ensures { result ≡ same_run a b }
-{
-    (a.run == b.run) & ((a.left == b.left) & (a.place == b.place))
-}
-
-fn same_words(a: Fields, b: Fields) -> bool
-    ensures { result ≡ same_words a b }
-{
-    (a.word == b.word) & ((a.divider == b.divider) & (a.rise == b.rise))
-}
-
-fn same_rest(a: Fields, b: Fields) -> bool
-    ensures { result ≡ same_rest a b }
-{
-    (a.marks == b.marks) & ((a.address == b.address) & (a.count == b.count))
-}
-
-fn same_extras(a: Fields, b: Fields) -> bool
-    ensures { result ≡ same_extras a b }
-{
-    (a.second == b.second) & (a.mhz == b.mhz)
-}
-
 // Whether two blocks say the same.
+#[tactic(auto, unfolding(crate::specs::Fields::same_fields))]
 pub fn same_fields(a: Fields, b: Fields) -> bool
     ensures { result ≡ same_fields a b }
 {
-    same_call(a, b)
-        & (same_stage(a, b)
-            & (same_ending(a, b)
-                & (same_run(a, b) & (same_words(a, b) & (same_rest(a, b) & same_extras(a, b))))))
+    a == b
 }
