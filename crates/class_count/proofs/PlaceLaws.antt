@@ -7,12 +7,13 @@ use mathlib.Core.List.{List, [], ◌∷◌}
 use mathlib.Core.Option.{Option, none, some, map}
 use lib.Dec.{eqb, eqb-zero-suc, eqb-suc-zero, eqb-suc-suc}
 use borrow.Author.Tests.{eqb-true}
+use Rattle.std.specs.Prelude.{Some}
+use Rattle.std.specs.Prelude as prelude
 use Rattle.registers.specs.Word.{has_bit}
 use Rattle.registers.specs.Flags.{error_flags}
+use Rattle.access.specs.declared.ending.Failure.{Failure}
 use Rattle.access.specs.Endings.{error_number, flagged}
 use Rattle.access.proofs.Choice.{chosen}
-use Rattle.errors.specs.declared.Checked.{Checked}
-use Rattle.errors.specs.declared.Checked.TheVariants.{Failed}
 use Rattle.errors.specs.Classes.{Class, first_of}
 use Rattle.class_count.specs.Order.{first_at, is_at, is_none, is_in, are_different}
 use Rattle.class_count.specs.ClassWords.{number_of, flags_in, numbers_in, place_of}
@@ -25,13 +26,13 @@ is_place (some k) o = is_at k o
 
 -- the class found, where the first flag decides or not
 abbrev found : Class → Bool → List Class → ℕ → ℕ
-found c h cs w = number_of (cond h (Failed (flagged c.error (error_flags w))) (first_of cs w))
+found c h cs w = number_of (cond h (Some (flagged c.error (error_flags w))) (first_of cs w))
 
 -- a number that is no class's is never found
 pub never_found : (n : ℕ) (cs : List Class) (w : ℕ) → eqb n 0 ≡ false → is_in n (numbers_in cs) ≡ false → eqb n (number_of (first_of cs w)) ≡ false
 never_found n [] w z a = z
 never_found n (c ∷ cs) w z a =
-    chosen (λ (x : Checked). eqb n (number_of x) ≡ false) (has_bit c.flag w)
+    chosen (λ (x : prelude.Option Failure). eqb n (number_of x) ≡ false) (has_bit c.flag w)
     (λ h. first_differs n (error_number c.error) (numbers_in cs) a)
     (λ h. never_found n cs w z (not_rest n (error_number c.error) (numbers_in cs) a))
 

@@ -1,18 +1,18 @@
 -- How many status words lead to each class, on a chip, for a master (`nack`) or a slave.
-use Rattle.std.specs.Prelude.{ℕ, suc, ◌-◌, ◌^◌, ◌≤◌, ◌≡◌, Bool, cond, List, [], ◌∷◌, map, eqb, length}
+use Rattle.std.specs.Prelude as prelude
+use Rattle.std.specs.Prelude.{ℕ, suc, ◌-◌, ◌^◌, ◌≤◌, ◌≡◌, Bool, cond, List, [], ◌∷◌, map, eqb, length, Some, None}
 use Rattle.std.proofs.Math.Option
 use Rattle.std.proofs.Math.Option.{Option, none, some}
 use Rattle.registers.specs.declared.chip.Chip.{Chip}
+use Rattle.access.specs.declared.ending.Failure.{Failure}
 use Rattle.access.specs.Endings.{error_number}
-use Rattle.errors.specs.declared.Checked.{Checked}
-use Rattle.errors.specs.declared.Checked.TheVariants.{Fine, Failed}
 use Rattle.errors.specs.Classes.{Class, classes, error_of}
 use Rattle.class_count.specs.Counting.{count_words}
 
 -- the number of the class that was found: 0 for none
-abbrev pub number_of : Checked → ℕ
-number_of Fine = 0
-number_of (Failed f) = error_number f.error
+abbrev pub number_of : prelude.Option Failure → ℕ
+number_of None = 0
+number_of (Some f) = error_number f.error
 
 -- THE COUNT
 unfoldable pub words_of : Chip → Bool → ℕ → ℕ

@@ -15,6 +15,7 @@ fn left(words: u32, has: bool) -> u32
 }
 
 // By a class's number, 0 for none, for a master (`nack`) or a slave. A class has what its flag takes; any other number has 0.
+// A number and not an enum, which would ask more of callers: each number has an answer.
 pub fn words_of(class: u8, chip: Chip, nack: bool) -> u32
     ensures { result ≡ words_of chip nack class }
 {

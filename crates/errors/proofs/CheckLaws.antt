@@ -4,6 +4,7 @@ use mathlib.Core.Path.{◌≡◌, refl, sym, ap, ◌∙◌, subst}
 use mathlib.Core.Bool.{Bool, true, false, cond, not, ◌&&◌, true≢false}
 use Prim.Native.Nat.{ℕ}
 use lib.Dec.{eqb}
+use Rattle.std.specs.Prelude.{Option, Some, None, Err}
 use Rattle.registers.specs.declared.chip.Chip.{Chip}
 use Rattle.registers.specs.Word.{has_bit}
 use Rattle.registers.specs.declared.register.Register.TheVariants.{Star1}
@@ -12,14 +13,11 @@ use Rattle.registers.specs.Flags.{error_flags, clear_error}
 use Rattle.registers.proofs.FlagLaws.{same_flags}
 use Rattle.access.specs.declared.ending.Error.{Error}
 use Rattle.access.specs.declared.ending.Error.TheVariants.{Bus, Nack, Timeout}
-use Rattle.access.specs.declared.ending.Ending.TheVariants as ending
 use Rattle.access.specs.declared.ending.Failure.{Failure}
 use Rattle.access.specs.Endings.{flagged, failure_of, failed}
 use Rattle.access.specs.Program.{Access, read, Program, Blocking, cut, write_register, only_if, ◌>>◌}
 use Rattle.alike.specs.Like.{any_answer, Like, Handles, Alike}
 use Rattle.alike.proofs.LikeLaws.{accesses, cases, cut_like}
-use Rattle.errors.specs.declared.Checked.{Checked}
-use Rattle.errors.specs.declared.Checked.TheVariants.{Fine, Failed}
 use Rattle.errors.specs.Classes.{error_of, decided}
 use Rattle.errors.specs.Check.{check_errors, check_until_berr, has_no_berr}
 use Rattle.errors.specs.AsTheRust.{rust_chain, rust_of, end_as_the_rusts, added_forgotten, SecondForgotten, FlagsDecide, OthersStay}
@@ -61,28 +59,28 @@ chain_alike chip nack w {h} {h'} {p} {p'} H K =
     (go (error_of chip nack w) (rust_of chip nack w) refl (finds chip nack w) (both_find chip nack w))
   where
     -- the flags of a found error are the word's, so the Rust finds in them what it finds in the word
-    found : (f g : Failure) → rust_of chip nack w ≡ Failed g → Finds w f → end_as_the_rusts chip nack (ending.Failed f) ≡ ending.Failed g
+    found : (f g : Failure) → rust_of chip nack w ≡ Some g → Finds w f → end_as_the_rusts chip nack (Err f) ≡ Err g
     found f g q u =
-        ap (λ (x : ℕ). end_as_the_rusts chip nack (ending.Failed (flagged f.error x))) u.flags
+        ap (λ (x : ℕ). end_as_the_rusts chip nack (Err (flagged f.error x))) u.flags
         ∙ flags_decide chip nack f.error w
-        ∙ sym (by_rust chip nack w ending.Failed (failed f.error))
-        ∙ ap (λ (c : Checked). decided c ending.Failed (failed f.error)) q
+        ∙ sym (by_rust chip nack w Err (failed f.error))
+        ∙ ap (λ (c : Option Failure). decided c Err (failed f.error)) q
 
-    go : (c d : Checked) → rust_of chip nack w ≡ d → decided c (Finds w) (Unit {0}) → decided c (λ f. true) false ≡ decided d (λ f. true) false → Like (end_as_the_rusts chip nack) any_answer (decided c h p) (decided d h' p')
-    go Fine Fine q u b = K
-    go (Failed f) (Failed g) q u b = H.after f g (found f g q u)
-    go Fine (Failed g) q u b = absurd (true≢false (sym b))
-    go (Failed f) Fine q u b = absurd (true≢false b)
+    go : (c d : Option Failure) → rust_of chip nack w ≡ d → decided c (Finds w) (Unit {0}) → decided c (λ f. true) false ≡ decided d (λ f. true) false → Like (end_as_the_rusts chip nack) any_answer (decided c h p) (decided d h' p')
+    go None None q u b = K
+    go (Some f) (Some g) q u b = H.after f g (found f g q u)
+    go None (Some g) q u b = absurd (true≢false (sym b))
+    go (Some f) None q u b = absurd (true≢false b)
 
 -- without BERR in the word it is enough to forget the flags
 chain_same : (chip : Chip) (nack : Bool) (w : ℕ) → has_bit BERR w ≡ false → {h h' : Failure → Program} {p p' : Program} → Handles added_forgotten any_answer h h' → Like added_forgotten any_answer p p'
     → Like added_forgotten any_answer (decided (error_of chip nack w) h p) (rust_chain chip nack w h' p')
 chain_same chip nack w e {h} {h'} {p} {p'} H K =
-    subst (Like added_forgotten any_answer (decided (error_of chip nack w) h p)) (ap (λ (c : Checked). decided c h' p') (class_is_the_rusts.without_berr chip nack w e) ∙ by_rust chip nack w h' p') (go (error_of chip nack w))
+    subst (Like added_forgotten any_answer (decided (error_of chip nack w) h p)) (ap (λ (c : Option Failure). decided c h' p') (class_is_the_rusts.without_berr chip nack w e) ∙ by_rust chip nack w h' p') (go (error_of chip nack w))
   where
-    go : (c : Checked) → Like added_forgotten any_answer (decided c h p) (decided (unflagged c) h' p')
-    go Fine = K
-    go (Failed f) = H.after f (failure_of f.error) refl
+    go : (c : Option Failure) → Like added_forgotten any_answer (decided c h p) (decided (unflagged c) h' p')
+    go None = K
+    go (Some f) = H.after f (failure_of f.error) refl
 
 -- ---- both checks up to a word with BERR
 
@@ -123,6 +121,6 @@ until_itself {allowed} chip nack w e = record {
       (cases (not (eqb (error_flags w) 0)) (accesses (λ _. go (error_of chip nack w) h h' (k tt) (k' tt) H (K tt))) (go (error_of chip nack w) h h' (k tt) (k' tt) H (K tt)));
 }
   where
-    go : (c : Checked) (h h' : Failure → Program) (p p' : Program) → Handles (λ e. e) allowed h h' → Like (λ e. e) allowed p p' → Like (λ e. e) allowed (decided c h p) (decided c h' p')
-    go Fine h h' p p' H K = K
-    go (Failed f) h h' p p' H K = H.after f f refl
+    go : (c : Option Failure) (h h' : Failure → Program) (p p' : Program) → Handles (λ e. e) allowed h h' → Like (λ e. e) allowed p p' → Like (λ e. e) allowed (decided c h p) (decided c h' p')
+    go None h h' p p' H K = K
+    go (Some f) h h' p p' H K = H.after f f refl

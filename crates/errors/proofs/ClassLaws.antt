@@ -3,6 +3,7 @@
 use Prim.Native.Nat.{ℕ}
 use mathlib.Core.Path.{◌≡◌, refl, sym, ◌∙◌}
 use mathlib.Core.Bool.{Bool, true, false, cond, ◌&&◌}
+use Rattle.std.specs.Prelude.{Option, Some, None}
 use Rattle.registers.specs.declared.chip.Chip.{Chip}
 use Rattle.registers.specs.Bits.{BERR, ARLO, AF, OVR, PECERR, TIMEOUT}
 use Rattle.registers.specs.Word.{has_bit}
@@ -12,15 +13,13 @@ use Rattle.access.specs.declared.ending.Error.{Error}
 use Rattle.access.specs.declared.ending.Error.TheVariants.{Bus, Arbitration, Nack, Timeout, Crc, Overrun}
 use Rattle.access.specs.declared.ending.Failure.{Failure}
 use Rattle.access.specs.Endings.{flagged}
-use Rattle.errors.specs.declared.Checked.{Checked}
-use Rattle.errors.specs.declared.Checked.TheVariants.{Fine, Failed}
 use Rattle.errors.specs.Classes.{classes, first_of, error_of, decided}
 
 -- an error with the flags of the word
 abbrev found : Error → ℕ → Failure
 found e w = flagged e (error_flags w)
 
-pub decided_if {ℓ} : {X : Type ℓ} (t : Bool) (f : Failure) (c : Checked) (h : Failure → X) (p : X) → decided (cond t (Failed f) c) h p ≡ cond t (h f) (decided c h p)
+pub decided_if {ℓ} : {X : Type ℓ} (t : Bool) (f : Failure) (c : Option Failure) (h : Failure → X) (p : X) → decided (cond t (Some f) c) h p ≡ cond t (h f) (decided c h p)
 decided_if true f c h p = refl
 decided_if false f c h p = refl
 
@@ -49,22 +48,22 @@ by_class chip nack w h p = go chip.ch32v4 chip.i2c_v3 nack
     go false false false = simp decided_if
 
 -- the class itself
-pub as_ifs : (chip : Chip) (nack : Bool) (w : ℕ) → our_chain chip nack w (λ e. Failed (found e w)) Fine ≡ error_of chip nack w
-as_ifs chip nack w = by_class chip nack w Failed Fine ∙ same (error_of chip nack w)
+pub as_ifs : (chip : Chip) (nack : Bool) (w : ℕ) → our_chain chip nack w (λ e. Some (found e w)) None ≡ error_of chip nack w
+as_ifs chip nack w = by_class chip nack w Some None ∙ same (error_of chip nack w)
   where
-    same : (c : Checked) → decided c Failed Fine ≡ c
-    same (Failed f) = refl
-    same Fine = refl
+    same : (c : Option Failure) → decided c Some None ≡ c
+    same (Some f) = refl
+    same None = refl
 
 -- a word without error flags shows no error
-pub no_flags : (chip : Chip) (nack : Bool) (w : ℕ) → error_flags w ≡ 0 → error_of chip nack w ≡ Fine
+pub no_flags : (chip : Chip) (nack : Bool) (w : ℕ) → error_flags w ≡ 0 → error_of chip nack w ≡ None
 no_flags chip nack w z =
     let f = clear_flags w z in
     sym (as_ifs chip nack w)
     ∙ rw (f.arlo, f.berr, f.timeout, f.pecerr, f.ovr, f.af)
     (rest chip.ch32v4 chip.i2c_v3 nack)
   where
-    rest : (a b c : Bool) → chain false (a && false) (b && false) false false (c && false) (λ e. Failed (found e w)) Fine ≡ Fine
+    rest : (a b c : Bool) → chain false (a && false) (b && false) false false (c && false) (λ e. Some (found e w)) None ≡ None
     rest true true true = refl
     rest true true false = refl
     rest true false true = refl

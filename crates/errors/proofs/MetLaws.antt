@@ -6,6 +6,7 @@ use mathlib.Core.Bool.{Bool, true, false, cond, not, ◌&&◌, ◌||◌, true≢
 use native.Mathlib.Omega.{arith}
 use lib.Dec.{eqb}
 use borrow.Author.Tests.{eqb-true, ne_eqb}
+use Rattle.std.specs.Prelude.{Option, Some, None, Err}
 use Rattle.registers.specs.declared.chip.Chip.{Chip}
 use Rattle.registers.specs.Bits.{BERR, ARLO, AF, OVR, PECERR, TIMEOUT}
 use Rattle.registers.specs.Word.{has_bit}
@@ -16,12 +17,9 @@ use Rattle.access.specs.declared.ending.Error.TheVariants.{Bus, Arbitration, Nac
 use Rattle.access.specs.declared.ending.Failure.{Failure}
 use Rattle.access.specs.Endings.{error_number, flagged, failure_of, returned_both, ending_of}
 use Rattle.access.specs.Endings as access
-use Rattle.access.specs.declared.ending.Ending.TheVariants as ending
 use Rattle.access.proofs.Choice.{first_true, second_true, both_true}
 use Rattle.access.proofs.Compared.{itself, turned}
 use Rattle.access.proofs.EndingLaws.{small_told, small_number}
-use Rattle.errors.specs.declared.Checked.{Checked}
-use Rattle.errors.specs.declared.Checked.TheVariants.{Fine, Failed}
 use Rattle.errors.specs.Classes.{error_of, decided}
 use Rattle.errors.specs.Met.{same_failure, unchecked, is_met, has_failed}
 use Rattle.errors.proofs.ClassLaws.{chain, by_class, as_ifs, no_flags}
@@ -60,17 +58,17 @@ pub found_met : (chip : Chip) (nack : Bool) (w : ℕ) → decided (error_of chip
 unfolding is_met
 found_met chip nack w = go (error_of chip nack w) refl (finds chip nack w)
   where
-    go : (c : Checked) → error_of chip nack w ≡ c → decided c (Finds w) (Unit {0})
+    go : (c : Option Failure) → error_of chip nack w ≡ c → decided c (Finds w) (Unit {0})
         → decided c (λ f. decided (error_of chip nack f.flags) (λ found. same_failure found f) (eqb f.flags 0 && unchecked nack f.error) ≡ true) (Unit {0})
-    go Fine e p = tt
-    go (Failed f) e p =
-        let q : error_of chip nack f.flags ≡ Failed f = ap (error_of chip nack) p.flags ∙ found_again chip nack w ∙ e in
-        ap (λ (c : Checked). decided c (λ found. same_failure found f) (eqb f.flags 0 && unchecked nack f.error)) q
+    go None e p = tt
+    go (Some f) e p =
+        let q : error_of chip nack f.flags ≡ Some f = ap (error_of chip nack) p.flags ∙ found_again chip nack w ∙ e in
+        ap (λ (c : Option Failure). decided c (λ found. same_failure found f) (eqb f.flags 0 && unchecked nack f.error)) q
         ∙ both_true (itself (error_number f.error)) (itself f.flags)
 
 pub unchecked_met : (chip : Chip) (nack : Bool) (e : Error) → is_met chip nack (failure_of e) ≡ unchecked nack e
 unfolding is_met error_flags
-unchecked_met chip nack e = ap (λ (c : Checked). decided c (λ found. same_failure found (failure_of e)) (unchecked nack e)) (no_flags chip nack 0 refl)
+unchecked_met chip nack e = ap (λ (c : Option Failure). decided c (λ found. same_failure found (failure_of e)) (unchecked nack e)) (no_flags chip nack 0 refl)
 
 -- what can be met is one of 1 to 6
 met_small : (chip : Chip) (nack : Bool) (f : Failure) → is_met chip nack f ≡ true → error_number f.error ≤ 6
@@ -86,18 +84,18 @@ met_small chip nack f = go (error_of chip nack f.flags) (finds chip nack f.flags
         never true q = true≢false (sym q)
         never false q = true≢false (sym q)
 
-    go : (c : Checked) → decided c (Finds f.flags) (Unit {0}) → decided c (λ found. same_failure found f) (eqb f.flags 0 && unchecked nack f.error) ≡ true → error_number f.error ≤ 6
-    go (Failed g) p e =
+    go : (c : Option Failure) → decided c (Finds f.flags) (Unit {0}) → decided c (λ found. same_failure found f) (eqb f.flags 0 && unchecked nack f.error) ≡ true → error_number f.error ≤ 6
+    go (Some g) p e =
         let z = eqb-true (error_number g.error) (error_number f.error) (first_true (eqb (error_number g.error) (error_number f.error)) (eqb g.flags f.flags) e) in
         subst (λ (n : ℕ). n ≤ 6) z p.small
-    go Fine p e = either_small (error_number f.error) (eqb (error_number f.error) 4) (eqb (error_number f.error) 2) refl refl (second_true (eqb f.flags 0) (unchecked nack f.error) e)
+    go None p e = either_small (error_number f.error) (eqb (error_number f.error) 4) (eqb (error_number f.error) 2) refl refl (second_true (eqb f.flags 0) (unchecked nack f.error) e)
 
 -- ---- by the words of an end
 
 pub met_number : (chip : Chip) (nack : Bool) (n v x : ℕ) → n < 256 → has_failed chip nack (ending_of n v x) ≡ true → n ≤ 6
 met_number chip nack n v x h = go (eqb n 0) refl
   where
-    go : (b : Bool) → eqb n 0 ≡ b → has_failed chip nack (cond b (returned_both v x) (ending.Failed (flagged (access.error_of n) x))) ≡ true → n ≤ 6
+    go : (b : Bool) → eqb n 0 ≡ b → has_failed chip nack (cond b (returned_both v x) (Err (flagged (access.error_of n) x))) ≡ true → n ≤ 6
     go true z q = let m = eqb-true n 0 z in omega (arith, m)
     go false z q = small_number n h (met_small chip nack (flagged (access.error_of n) x) q)
 
@@ -116,16 +114,16 @@ unchecked_told nack n h =
     one false x y false = refl
 
 -- an error that can be met, by what a check finds in the extra word
-pub failed_told : (chip : Chip) (nack : Bool) (n v x : ℕ) → n < 256 → (c : Checked) → c ≡ error_of chip nack x
+pub failed_told : (chip : Chip) (nack : Bool) (n v x : ℕ) → n < 256 → (c : Option Failure) → c ≡ error_of chip nack x
     → decided c (λ found. eqb (error_number found.error) n && eqb found.flags x) (eqb x 0 && (not (eqb n 0) && unchecked nack (access.error_of n))) ≡ has_failed chip nack (ending_of n v x)
 unfolding is_met
-failed_told chip nack n v x h c e = go (eqb n 0) refl c (subst (λ (q : Checked). decided q (Finds x) (Unit {0})) (sym e) (finds chip nack x)) ∙ rest (eqb n 0)
+failed_told chip nack n v x h c e = go (eqb n 0) refl c (subst (λ (q : Option Failure). decided q (Finds x) (Unit {0})) (sym e) (finds chip nack x)) ∙ rest (eqb n 0)
   where
     -- the ending that failed, by what was found
-    fails : Checked → Bool
+    fails : Option Failure → Bool
     fails q = decided q (λ found. same_failure found (flagged (access.error_of n) x)) (eqb x 0 && unchecked nack (access.error_of n))
 
-    rest : (b : Bool) → cond b false (fails c) ≡ has_failed chip nack (cond b (returned_both v x) (ending.Failed (flagged (access.error_of n) x)))
+    rest : (b : Bool) → cond b false (fails c) ≡ has_failed chip nack (cond b (returned_both v x) (Err (flagged (access.error_of n) x)))
     rest true = refl
     rest false = ap fails e
 
@@ -133,9 +131,9 @@ failed_told chip nack n v x h c e = go (eqb n 0) refl c (subst (λ (q : Checked)
     nothing true = refl
     nothing false = refl
 
-    go : (b : Bool) → eqb n 0 ≡ b → (q : Checked) → decided q (Finds x) (Unit {0})
+    go : (b : Bool) → eqb n 0 ≡ b → (q : Option Failure) → decided q (Finds x) (Unit {0})
         → decided q (λ found. eqb (error_number found.error) n && eqb found.flags x) (eqb x 0 && (not b && unchecked nack (access.error_of n))) ≡ cond b false (fails q)
-    go true z Fine p = nothing (eqb x 0)
-    go true z (Failed g) p = ap (λ (t : Bool). t && eqb g.flags x) (ne_eqb (error_number g.error) n (λ w. let m : n ≡ 0 = eqb-true n 0 z in let a = p.above in omega (arith, a, w, m)))
-    go false z Fine p = refl
-    go false z (Failed g) p = ap (λ (t : Bool). t && eqb g.flags x) (small_told (error_number g.error) n p.above p.small h ∙ ap (λ (t : Bool). not t && eqb (error_number g.error) (error_number (access.error_of n))) z)
+    go true z None p = nothing (eqb x 0)
+    go true z (Some g) p = ap (λ (t : Bool). t && eqb g.flags x) (ne_eqb (error_number g.error) n (λ w. let m : n ≡ 0 = eqb-true n 0 z in let a = p.above in omega (arith, a, w, m)))
+    go false z None p = refl
+    go false z (Some g) p = ap (λ (t : Bool). t && eqb g.flags x) (small_told (error_number g.error) n p.above p.small h ∙ ap (λ (t : Bool). not t && eqb (error_number g.error) (error_number (access.error_of n))) z)

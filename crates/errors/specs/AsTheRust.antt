@@ -1,18 +1,14 @@
 -- Our end as the Rust's. What the Rust lacks is forgotten: the second number of an end with 0, a reply's second count, and the flags of an
 -- error. And an error that a check decided becomes the class that the Rust's own order finds among these flags.
-use Rattle.std.specs.Prelude.{◌≡◌, Bool, cond, ◌&&◌, ℕ}
+use Rattle.std.specs.Prelude.{◌≡◌, Bool, cond, ◌&&◌, ℕ, Option, Some, None, Ok, Err}
 use Rattle.registers.specs.declared.chip.Chip.{Chip}
 use Rattle.registers.specs.Bits.{BERR, ARLO, AF, OVR, PECERR, TIMEOUT}
 use Rattle.registers.specs.Word.{has_bit}
 use Rattle.registers.specs.Flags.{error_flags}
-use Rattle.access.specs.declared.ending.Ending.{Ending}
-use Rattle.access.specs.declared.ending.Ending.TheVariants.{Done, Failed}
 use Rattle.access.specs.declared.ending.Error.{Error}
 use Rattle.access.specs.declared.ending.Error.TheVariants.{Bus, Arbitration, Nack, Timeout, Crc, Overrun}
 use Rattle.access.specs.declared.ending.Failure.{Failure}
-use Rattle.access.specs.Endings.{flagged, failure_of, returned, returned_both, failed}
-use Rattle.errors.specs.declared.Checked.{Checked}
-use Rattle.errors.specs.declared.Checked.TheVariants as checked
+use Rattle.access.specs.Endings.{Ending, flagged, failure_of, returned, returned_both, failed}
 
 -- the Rust's chain of ifs over a status word: h after an error, and p after none
 abbrev pub rust_chain {ℓ} : {X : Type ℓ} → Chip → Bool → ℕ → (Failure → X) → X → X
@@ -25,18 +21,18 @@ rust_chain chip nack w h p =
     (cond (chip.ch32v4 && has_bit BERR w) (h (failure_of Bus)) p)))))
 
 -- what it finds in a word
-abbrev pub rust_of : Chip → Bool → ℕ → Checked
-rust_of chip nack w = rust_chain chip nack w checked.Failed checked.Fine
+abbrev pub rust_of : Chip → Bool → ℕ → Option Failure
+rust_of chip nack w = rust_chain chip nack w Some None
 
 -- for a chip, and a master (`nack`) or a slave. Where no flag is an error no check decided, and the error stays
 unfoldable pub end_as_the_rusts : Chip → Bool → Ending → Ending
-end_as_the_rusts chip nack (Done o) = returned o.value
-end_as_the_rusts chip nack (Failed f) = rust_chain chip nack f.flags Failed (failed f.error)
+end_as_the_rusts chip nack (Ok o) = returned o.value
+end_as_the_rusts chip nack (Err f) = rust_chain chip nack f.flags Err (failed f.error)
 
 -- the second number and the flags forgotten, and nothing else: enough wherever both orders find one class (Departs.antt)
 abbrev pub added_forgotten : Ending → Ending
-added_forgotten (Done o) = returned o.value
-added_forgotten (Failed f) = failed f.error
+added_forgotten (Ok o) = returned o.value
+added_forgotten (Err f) = failed f.error
 
 -- what is forgotten of an end with 0
 abbrev pub SecondForgotten : Type 0
@@ -44,7 +40,7 @@ SecondForgotten = (chip : Chip) (nack : Bool) (v x : ℕ) → end_as_the_rusts c
 
 -- with the flags of a word an error becomes what the Rust finds in this word
 abbrev pub FlagsDecide : Type 0
-FlagsDecide = (chip : Chip) (nack : Bool) (e : Error) (w : ℕ) → end_as_the_rusts chip nack (Failed (flagged e (error_flags w))) ≡ rust_chain chip nack w Failed (failed e)
+FlagsDecide = (chip : Chip) (nack : Bool) (e : Error) (w : ℕ) → end_as_the_rusts chip nack (Err (flagged e (error_flags w))) ≡ rust_chain chip nack w Err (failed e)
 
 -- all else that no error check decided stays as it is: what else is returned, a late clock, a lost START, a refusal
 pub record OthersStay : Type 0 where

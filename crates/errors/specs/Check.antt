@@ -1,6 +1,6 @@
 -- Our error check, for master and slave: all error flags of a status word are cleared, the first of the chip's list decides, and the flags are
 -- reported with its error.
-use Rattle.std.specs.Prelude.{Bool, true, cond, not, ◌&&◌, ℕ, eqb}
+use Rattle.std.specs.Prelude.{Bool, true, cond, not, ◌&&◌, ℕ, eqb, Option}
 use Rattle.registers.specs.declared.chip.Chip.{Chip}
 use Rattle.registers.specs.declared.register.Register.{Register}
 use Rattle.registers.specs.declared.register.Register.TheVariants.{Star1}
@@ -8,12 +8,12 @@ use Rattle.registers.specs.Numbers.{register_number}
 use Rattle.registers.specs.Bits.{BERR}
 use Rattle.registers.specs.Word.{has_bit}
 use Rattle.registers.specs.Flags.{error_flags, clear_error}
+use Rattle.access.specs.declared.ending.Failure.{Failure}
 use Rattle.access.specs.Program.{Access, read, write, send, clock, Blocking, cut, write_register, only_if, ◌>>◌}
-use Rattle.errors.specs.declared.Checked.{Checked}
 use Rattle.errors.specs.Classes.{error_of, decided}
 
 -- the error of a word's class, if it has one
-abbrev pub report : Checked → Blocking (Unit {0})
+abbrev pub report : Option Failure → Blocking (Unit {0})
 report c = λ n h k. decided c h (k tt)
 
 unfoldable pub check_errors : Chip → Bool → ℕ → Blocking (Unit {0})

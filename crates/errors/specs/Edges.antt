@@ -1,19 +1,18 @@
 -- The starred edge of document 01 on status words: a STAR1 of 0x0600 is 2; with it both flags are told. And flags that fit an error, or do not.
-use Rattle.std.specs.Prelude.{ℕ, Bool, true, false, cond, List, [], ◌∷◌, map}
+use Rattle.std.specs.Prelude.{ℕ, Bool, true, false, cond, List, [], ◌∷◌, map, Option, Some, None}
 use Rattle.registers.specs.declared.chip.Chip.{Chip}
 use Rattle.registers.specs.Chips.{chips}
+use Rattle.access.specs.declared.ending.Failure.{Failure}
 use Rattle.access.specs.declared.ending.Error.{Error}
 use Rattle.access.specs.declared.ending.Error.TheVariants.{Bus, Arbitration, Nack, Timeout, Overrun, InvalidState}
 use Rattle.access.specs.Endings.{error_number, flagged}
 use Rattle.access.specs.Edges.{Edge}
-use Rattle.errors.specs.declared.Checked.{Checked}
-use Rattle.errors.specs.declared.Checked.TheVariants.{Fine, Failed}
 use Rattle.errors.specs.Classes.{error_of}
 use Rattle.errors.specs.Met.{is_met}
 
-abbrev pub answered : Checked → List ℕ
-answered Fine = 0 ∷ []
-answered (Failed f) = error_number f.error ∷ f.flags ∷ []
+abbrev pub answered : Option Failure → List ℕ
+answered None = 0 ∷ []
+answered (Some f) = error_number f.error ∷ f.flags ∷ []
 
 abbrev pub status_edges : List Edge
 status_edges = map (λ (chip : Chip). record { given = answered (error_of chip true 0x0600); expected = 2 ∷ 0x0600 ∷ [] }) chips

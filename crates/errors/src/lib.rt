@@ -7,27 +7,21 @@ pub mod rust;
 ghost use Rattle.std.specs.Prelude.{◌≡◌};
 ghost use Rattle.access.specs.Endings.{flagged};
 ghost use Rattle.registers.specs.Flags.{error_flags};
-ghost use Rattle.errors.specs.declared.Checked.TheVariants as checked;
 ghost use Rattle.errors.specs.Classes.{error_of};
 
 use access::{Error, Failure, ending};
 use registers::{Chip, bits, flags, word};
 
-#[derive(Clone, Copy)]
-pub enum Checked {
-    Fine,
-    Failed(Failure),
-}
-
 // The error with all error flags of the word.
-fn failed(error: Error, status: u16) -> Checked
-    ensures { result ≡ checked.Failed (flagged error (error_flags status)) }
+fn failed(error: Error, status: u16) -> Option<Failure>
+    ensures { result ≡ Some (flagged error (error_flags status)) }
 {
-    Checked::Failed(ending::flagged(error, flags::error_flags(status)))
+    Some(ending::flagged(error, flags::error_flags(status)))
 }
 
 // The error of a STAR1 word, and the flags that are cleared. AF decides for a master (`nack`), and never for a slave.
-pub fn error_of(status: u16, chip: Chip, nack: bool) -> Checked
+#[tactic(auto, using(crate::proofs::ClassLaws::as_ifs), unfolding(crate::specs::Classes::error_of))]
+pub fn error_of(status: u16, chip: Chip, nack: bool) -> Option<Failure>
     ensures { result ≡ error_of chip nack status }
 {
     if word::bit(status, bits::ARLO) {
@@ -48,5 +42,5 @@ pub fn error_of(status: u16, chip: Chip, nack: bool) -> Checked
     if nack & word::bit(status, bits::AF) {
         return failed(Error::Nack, status);
     }
-    Checked::Fine
+    None
 }

@@ -3,8 +3,6 @@ ghost use Rattle.std.specs.Prelude.{◌≡◌, not, ◌&&◌, eqb};
 ghost use Rattle.access.specs.Endings.{ending_of, error_of};
 ghost use Rattle.errors.specs.Met.{unchecked, has_failed};
 
-use crate::Checked;
-use access::ending;
 use registers::Chip;
 
 // The error of this number is one that no error check finds.
@@ -19,10 +17,7 @@ pub fn has_failed(error: u8, value: u16, extra: u16, chip: Chip, nack: bool) -> 
     ensures { result ≡ has_failed chip nack (ending_of error value extra) }
 {
     match crate::error_of(extra, chip, nack) {
-        Checked::Fine => (extra == 0) & unchecked(error, nack),
-        Checked::Failed(found) => {
-            let class = found.error;
-            (ending::error_number(class) == error) & (found.flags == extra)
-        }
+        None => (extra == 0) & unchecked(error, nack),
+        Some(found) => { (u8::from(found.error) == error) & (found.flags == extra) }
     }
 }

@@ -1,7 +1,6 @@
 // Our ends as the Rust's: what programs that hold the library to the Rust compare.
-ghost use Rattle.std.specs.Prelude.{◌≡◌};
+ghost use Rattle.std.specs.Prelude.{◌≡◌, Err};
 ghost use Rattle.access.specs.Endings.{failed};
-ghost use Rattle.access.specs.declared.ending.Ending.TheVariants as ending;
 ghost use Rattle.errors.specs.AsTheRust.{rust_chain, end_as_the_rusts};
 
 use access::{Ending, Error, ending};
@@ -9,7 +8,7 @@ use registers::{Chip, bits, word};
 
 // What the Rust's order finds among the flags of an error; where none is an error, the error itself.
 fn found(error: Error, flags: u16, chip: Chip, nack: bool) -> Ending
-    ensures { result ≡ rust_chain chip nack flags ending.Failed (failed error) }
+    ensures { result ≡ rust_chain chip nack flags Err (failed error) }
 {
     if word::bit(flags, bits::ARLO) {
         return ending::failed(Error::Arbitration);
@@ -33,12 +32,13 @@ fn found(error: Error, flags: u16, chip: Chip, nack: bool) -> Ending
 }
 
 // For a master (`nack`) or a slave. The Rust has no second number and no flags, and tests BERR last.
+#[tactic(auto, unfolding(crate::specs::AsTheRust::end_as_the_rusts))]
 pub fn as_the_rust(ending: Ending, chip: Chip, nack: bool) -> Ending
     ensures { result ≡ end_as_the_rusts chip nack ending }
 {
     match ending {
-        Ending::Done(outcome) => ending::returned(outcome.value),
-        Ending::Failed(failure) => {
+        Ok(outcome) => ending::returned(outcome.value),
+        Err(failure) => {
             let error = failure.error;
             found(error, failure.flags, chip, nack)
         }

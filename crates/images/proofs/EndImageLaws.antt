@@ -5,8 +5,7 @@ use mathlib.Core.Path.{◌≡◌, ap, ◌∙◌}
 use mathlib.Core.List.{List}
 use native.Mathlib.Omega.{arith}
 use lib.ListN.{get_or}
-use Rattle.access.specs.declared.ending.Ending.{Ending}
-use Rattle.access.specs.Endings.{ending_of, ending_error, ending_value, ending_extra}
+use Rattle.access.specs.Endings.{Ending, ending_of, ending_error, ending_value, ending_extra}
 use Rattle.access.proofs.EndingLaws.{ending_back}
 use Rattle.block.specs.declared.fields.Fields.{Fields}
 use Rattle.block.specs.Bytes32.{bytes_of, word_at}

@@ -3,13 +3,13 @@
 use Prim.Native.Nat.{ℕ}
 use native.Mathlib.Omega.{arith}
 use mathlib.Core.Path.{◌≡◌, refl, ap}
+use Rattle.std.specs.Prelude.{Some, None}
 use Rattle.block.specs.declared.fields.Fields.{Fields}
 use Rattle.master.specs.declared.call.FrameOptions.{FrameOptions}
 use Rattle.master.specs.declared.call.FrameOptions.TheVariants as frameOptions
 use Rattle.master.specs.declared.call.Kind.{Kind}
 use Rattle.master.specs.declared.call.Kind.TheVariants as kind
 use Rattle.master.specs.declared.state.State.{State}
-use Rattle.images.specs.declared.master_image.MasterFound.TheVariants.{At, Nothing}
 use Rattle.images.specs.MasterImage.{frame_options_number, frame_options_of, kind_entry, kind_option, kind_of, master_fields, master_of, master_in}
 use Rattle.images.proofs.NumberLaws.{chip_back}
 use Rattle.access.proofs.EndingLaws.{ending_back}
@@ -40,10 +40,10 @@ pub master_back : (s : State) → master_of (master_fields s) ≡ s
 unfolding master_of master_fields
 master_back s = rw (chip_back s.call.chip, kind_back s.call.kind, stage_back s.stage, flag_back s.progress.reading, ending_back s.progress.ending)
 
-pub master_found : (s : State) → master_in (master_fields s) ≡ At s
+pub master_found : (s : State) → master_in (master_fields s) ≡ Some s
 unfolding master_in
-master_found s = found_state master_fields master_of At Nothing s (master_back s)
+master_found s = found_state master_fields master_of Some None s (master_back s)
 
-pub master_image : (f : Fields) (s : State) → master_in f ≡ At s → master_fields s ≡ f
+pub master_image : (f : Fields) (s : State) → master_in f ≡ Some s → master_fields s ≡ f
 unfolding master_in
-master_image f s e = found_image master_fields master_of At Nothing f s (λ k. cc) (λ k. let z : ◌≡◌ {A = ℕ} 0 1 = cc in omega arith) e
+master_image f s e = found_image master_fields master_of Some None f s (λ k. cc) (λ k. let z : ◌≡◌ {A = ℕ} 0 1 = cc in omega arith) e

@@ -5,11 +5,11 @@ use mathlib.Core.Path.{◌≡◌, refl, sym, subst}
 use mathlib.Core.Bool.{Bool, true, false, ◌&&◌, ◌||◌}
 use lib.Dec.{eqb, ltb}
 use borrow.Author.Tests.{eqb-true}
+use Rattle.std.specs.Prelude.{Some, None}
 use Rattle.access.specs.Endings.{is_ending}
 use Rattle.block.specs.declared.fields.Fields.{Fields}
 use Rattle.block.specs.Fields.{same_fields}
 use Rattle.master.specs.declared.call.Kind.TheVariants as kind
-use Rattle.images.specs.declared.master_image.MasterFound.TheVariants.{At, Nothing}
 use Rattle.images.specs.Numbers.{is_flag, is_chip}
 use Rattle.stage_numbers.specs.MasterStage.{is_stage}
 use Rattle.images.specs.MasterImage.{frame_options_of, kind_entry, kind_option, kind_of, is_kind, master_fields, master_of, unused_empty, is_call, master_in}
@@ -65,18 +65,18 @@ image_ranges f =
     (reordered (eqb (kind_entry (kind_of f.entry f.option)) f.entry) (eqb (kind_option (kind_of f.entry f.option)) f.option) (is_chip f.chip) (is_stage f.stage f.what f.phase) (is_ending f.error f.value f.extra) (is_flag f.marks && unused_empty f))
 
 -- what is found by the tests, one after the other
-pub found : (f : Fields) → is_call f ≡ true → is_stage f.stage f.what f.phase ≡ true → is_ending f.error f.value f.extra ≡ true → At (master_of f) ≡ master_in f
+pub found : (f : Fields) → is_call f ≡ true → is_stage f.stage f.what f.phase ≡ true → is_ending f.error f.value f.extra ≡ true → Some (master_of f) ≡ master_in f
 unfolding master_in
 found f c s e = rw (image_ranges f, c, s, e)
 
-pub no_ending : (f : Fields) → is_call f ≡ true → is_stage f.stage f.what f.phase ≡ true → is_ending f.error f.value f.extra ≡ false → Nothing ≡ master_in f
+pub no_ending : (f : Fields) → is_call f ≡ true → is_stage f.stage f.what f.phase ≡ true → is_ending f.error f.value f.extra ≡ false → None ≡ master_in f
 unfolding master_in
 no_ending f c s e = rw (image_ranges f, c, s, e)
 
-pub no_stage : (f : Fields) → is_call f ≡ true → is_stage f.stage f.what f.phase ≡ false → Nothing ≡ master_in f
+pub no_stage : (f : Fields) → is_call f ≡ true → is_stage f.stage f.what f.phase ≡ false → None ≡ master_in f
 unfolding master_in
 no_stage f c s = rw (image_ranges f, c, s)
 
-pub no_call : (f : Fields) → is_call f ≡ false → Nothing ≡ master_in f
+pub no_call : (f : Fields) → is_call f ≡ false → None ≡ master_in f
 unfolding master_in
 no_call f c = rw (image_ranges f, c)

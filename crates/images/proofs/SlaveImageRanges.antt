@@ -4,10 +4,10 @@ use Prim.Native.Nat.{ℕ, ◌<◌}
 use mathlib.Core.Path.{◌≡◌, refl}
 use mathlib.Core.Bool.{true, false, ◌&&◌}
 use lib.Dec.{eqb, ltb}
+use Rattle.std.specs.Prelude.{Some, None}
 use Rattle.access.specs.Endings.{is_ending}
 use Rattle.block.specs.declared.fields.Fields.{Fields}
 use Rattle.block.specs.Fields.{same_fields}
-use Rattle.images.specs.declared.slave_image.SlaveFound.TheVariants.{At, Nothing}
 use Rattle.images.specs.Numbers.{is_chip}
 use Rattle.stage_numbers.specs.SlaveStage.{is_stage}
 use Rattle.images.specs.SlaveImage.{is_kind, slave_fields, slave_of, unused_empty, is_call, slave_in}
@@ -25,18 +25,18 @@ image_ranges f =
     (reordered (is_kind f.entry) (eqb f.option 0) (is_chip f.chip) (is_stage f.stage f.what f.phase) (is_ending f.error f.value f.extra) (unused_empty f))
 
 -- what is found by the tests, one after the other
-pub found : (f : Fields) → is_call f ≡ true → is_stage f.stage f.what f.phase ≡ true → is_ending f.error f.value f.extra ≡ true → At (slave_of f) ≡ slave_in f
+pub found : (f : Fields) → is_call f ≡ true → is_stage f.stage f.what f.phase ≡ true → is_ending f.error f.value f.extra ≡ true → Some (slave_of f) ≡ slave_in f
 unfolding slave_in
 found f c s e = rw (image_ranges f, c, s, e)
 
-pub no_ending : (f : Fields) → is_call f ≡ true → is_stage f.stage f.what f.phase ≡ true → is_ending f.error f.value f.extra ≡ false → Nothing ≡ slave_in f
+pub no_ending : (f : Fields) → is_call f ≡ true → is_stage f.stage f.what f.phase ≡ true → is_ending f.error f.value f.extra ≡ false → None ≡ slave_in f
 unfolding slave_in
 no_ending f c s e = rw (image_ranges f, c, s, e)
 
-pub no_stage : (f : Fields) → is_call f ≡ true → is_stage f.stage f.what f.phase ≡ false → Nothing ≡ slave_in f
+pub no_stage : (f : Fields) → is_call f ≡ true → is_stage f.stage f.what f.phase ≡ false → None ≡ slave_in f
 unfolding slave_in
 no_stage f c s = rw (image_ranges f, c, s)
 
-pub no_call : (f : Fields) → is_call f ≡ false → Nothing ≡ slave_in f
+pub no_call : (f : Fields) → is_call f ≡ false → None ≡ slave_in f
 unfolding slave_in
 no_call f c = rw (image_ranges f, c)

@@ -1,8 +1,7 @@
 -- How a call is to end, in the words of its block: the error's number in byte 7, the value in bytes 22 and 23, the extra number in bytes 30
 -- and 31.
 use Rattle.std.specs.Prelude.{ℕ, ◌≡◌, Bool, List, get_or}
-use Rattle.access.specs.declared.ending.Ending.{Ending}
-use Rattle.access.specs.Endings.{ending_of, ending_error, ending_value, ending_extra, is_ending, is_plain}
+use Rattle.access.specs.Endings.{Ending, ending_of, ending_error, ending_value, ending_extra, is_ending, is_plain}
 use Rattle.errors.specs.Met.{has_failed}
 use Rattle.block.specs.declared.fields.Fields.{Fields}
 use Rattle.block.specs.Bytes32.{word_at}

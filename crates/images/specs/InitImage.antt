@@ -1,12 +1,10 @@
 -- The state of `init` in a block.
-use Rattle.std.specs.Prelude.{ℕ, cond, false, eqb}
+use Rattle.std.specs.Prelude.{ℕ, cond, false, eqb, Option, Some, None}
 use Rattle.block.specs.declared.fields.Fields.{Fields}
 use Rattle.block.specs.Fields.{same_fields}
 use Rattle.timing.specs.declared.init.Stage.{Stage}
 use Rattle.timing.specs.declared.init.Stage.TheVariants as stage
 use Rattle.timing.specs.declared.init.State.{State}
-use Rattle.images.specs.declared.init_image.InitFound.{InitFound}
-use Rattle.images.specs.declared.init_image.InitFound.TheVariants.{At, Nothing}
 use Rattle.images.specs.Numbers.{init_entry, flags_number, flag_at, chip_number, chip_of}
 
 abbrev pub stage_number : Stage → ℕ
@@ -42,5 +40,5 @@ init_of f =
     }
 
 -- the state whose image a block is
-unfoldable pub init_in : Fields → InitFound
-init_in f = cond (same_fields (init_fields (init_of f)) f) (At (init_of f)) Nothing
+unfoldable pub init_in : Fields → Option State
+init_in f = cond (same_fields (init_fields (init_of f)) f) (Some (init_of f)) None

@@ -1,16 +1,12 @@
 -- The state of `init_slave` in a block.
-use Rattle.std.specs.Prelude.{ℕ, Bool, true, false, cond, eqb}
+use Rattle.std.specs.Prelude.{ℕ, Bool, true, false, cond, eqb, Option, Some, None}
 use Rattle.block.specs.declared.fields.Fields.{Fields}
 use Rattle.block.specs.Fields.{same_fields}
 use Rattle.slave.specs.declared.config.SlaveAddress.{SlaveAddress}
 use Rattle.slave.specs.declared.config.SlaveAddress.TheVariants.{SevenBit, TenBit}
-use Rattle.slave.specs.declared.config.SecondAddress.{SecondAddress}
-use Rattle.slave.specs.declared.config.SecondAddress.TheVariants as second
 use Rattle.slave.specs.declared.init.InitStage.{InitStage}
 use Rattle.slave.specs.declared.init.InitStage.TheVariants as initStage
 use Rattle.slave.specs.declared.init.InitState.{InitState}
-use Rattle.images.specs.declared.init_slave_image.InitSlaveFound.{InitSlaveFound}
-use Rattle.images.specs.declared.init_slave_image.InitSlaveFound.TheVariants.{At, Nothing}
 use Rattle.images.specs.Numbers.{init_slave_entry, flags_number, flag_at}
 
 abbrev pub init_stage_number : InitStage → ℕ
@@ -38,16 +34,16 @@ address_word (TenBit a) = a
 abbrev pub address_of : Bool → ℕ → SlaveAddress
 address_of ten a = cond ten (TenBit a) (SevenBit a)
 
-abbrev pub has_second : SecondAddress → Bool
-has_second second.Nothing = false
-has_second (second.At a) = true
+abbrev pub has_second : Option ℕ → Bool
+has_second None = false
+has_second (Some a) = true
 
-abbrev pub second_byte : SecondAddress → ℕ
-second_byte second.Nothing = 0
-second_byte (second.At a) = a
+abbrev pub second_byte : Option ℕ → ℕ
+second_byte None = 0
+second_byte (Some a) = a
 
-abbrev pub second_of : Bool → ℕ → SecondAddress
-second_of has a = cond has (second.At a) second.Nothing
+abbrev pub second_of : Bool → ℕ → Option ℕ
+second_of has a = cond has (Some a) None
 
 -- what a block says of a state
 unfoldable pub init_slave_fields : InitState → Fields
@@ -64,5 +60,5 @@ init_slave_of f =
     }
 
 -- the state whose image a block is
-unfoldable pub init_slave_in : Fields → InitSlaveFound
-init_slave_in f = cond (same_fields (init_slave_fields (init_slave_of f)) f) (At (init_slave_of f)) Nothing
+unfoldable pub init_slave_in : Fields → Option InitState
+init_slave_in f = cond (same_fields (init_slave_fields (init_slave_of f)) f) (Some (init_slave_of f)) None

@@ -1,5 +1,5 @@
 -- The state of a master call in a block.
-use Rattle.std.specs.Prelude.{ℕ, Bool, cond, ◌&&◌, eqb}
+use Rattle.std.specs.Prelude.{ℕ, Bool, cond, ◌&&◌, eqb, Option, Some, None}
 use Rattle.access.specs.Endings.{ending_of, ending_error, ending_value, ending_extra}
 use Rattle.block.specs.declared.fields.Fields.{Fields}
 use Rattle.block.specs.Fields.{same_fields}
@@ -8,8 +8,6 @@ use Rattle.master.specs.declared.call.FrameOptions.TheVariants as frameOptions
 use Rattle.master.specs.declared.call.Kind.{Kind}
 use Rattle.master.specs.declared.call.Kind.TheVariants as kind
 use Rattle.master.specs.declared.state.State.{State}
-use Rattle.images.specs.declared.master_image.MasterFound.{MasterFound}
-use Rattle.images.specs.declared.master_image.MasterFound.TheVariants.{At, Nothing}
 use Rattle.images.specs.Numbers.{transaction_entry, write_read_entry, write_entry, read_entry, flag_number, flag_at, is_flag, chip_number, chip_of, is_chip}
 use Rattle.stage_numbers.specs.MasterStage.{stage_group, stage_what, stage_phase, stage_of}
 
@@ -69,5 +67,5 @@ unfoldable pub is_call : Fields → Bool
 is_call f = is_kind f.entry f.option && (is_chip f.chip && (is_flag f.marks && unused_empty f))
 
 -- the state whose image a block is
-unfoldable pub master_in : Fields → MasterFound
-master_in f = cond (same_fields (master_fields (master_of f)) f) (At (master_of f)) Nothing
+unfoldable pub master_in : Fields → Option State
+master_in f = cond (same_fields (master_fields (master_of f)) f) (Some (master_of f)) None

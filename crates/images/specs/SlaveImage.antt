@@ -1,13 +1,11 @@
 -- The state of a slave call in a block.
-use Rattle.std.specs.Prelude.{ℕ, Bool, cond, ◌&&◌, eqb}
+use Rattle.std.specs.Prelude.{ℕ, Bool, cond, ◌&&◌, eqb, Option, Some, None}
 use Rattle.block.specs.declared.fields.Fields.{Fields}
 use Rattle.block.specs.Fields.{same_fields}
 use Rattle.access.specs.Endings.{ending_of, ending_error, ending_value, ending_extra}
 use Rattle.slave.specs.declared.state.Kind.{Kind}
 use Rattle.slave.specs.declared.state.Kind.TheVariants as kind
 use Rattle.slave.specs.declared.state.State.{State}
-use Rattle.images.specs.declared.slave_image.SlaveFound.{SlaveFound}
-use Rattle.images.specs.declared.slave_image.SlaveFound.TheVariants.{At, Nothing}
 use Rattle.images.specs.Numbers.{listen_entry, respond_to_write_entry, respond_to_read_entry, chip_number, chip_of, is_chip}
 use Rattle.stage_numbers.specs.SlaveStage.{stage_group, stage_what, stage_phase, stage_of}
 
@@ -44,5 +42,5 @@ unfoldable pub is_call : Fields → Bool
 is_call f = (is_kind f.entry && eqb f.option 0) && (is_chip f.chip && unused_empty f)
 
 -- the state whose image a block is
-unfoldable pub slave_in : Fields → SlaveFound
-slave_in f = cond (same_fields (slave_fields (slave_of f)) f) (At (slave_of f)) Nothing
+unfoldable pub slave_in : Fields → Option State
+slave_in f = cond (same_fields (slave_fields (slave_of f)) f) (Some (slave_of f)) None

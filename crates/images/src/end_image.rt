@@ -55,6 +55,8 @@ pub fn is_done(block: &[u8]) -> bool
 }
 
 // An error was met that the block's chip can give, with flags that fit it.
+#[cold]
+#[inline(never)]
 pub fn has_failed(block: &[u8], nack: bool) -> bool
     requires { length block.now ≡ block_size }
     ensures { result ≡ has_failed_at nack block.now }

@@ -7,31 +7,10 @@ use block::{Fields, fields};
 use timing::init::{Stage, State};
 use timing::settings::Timing;
 
-// What a block says of `init`, if it is the image of a state.
-#[derive(Clone, Copy)]
-pub enum InitFound {
-    At(State),
-    Nothing,
-}
-
 fn stage_number(x: Stage) -> u8
     ensures { result ≡ stage_number x }
 {
-    match x {
-        Stage::DisableRead => 0,
-        Stage::DisableWrite => 1,
-        Stage::ResetRead => 2,
-        Stage::ResetWrite => 3,
-        Stage::ReleaseRead => 4,
-        Stage::ReleaseWrite => 5,
-        Stage::FrequencyRead => 6,
-        Stage::FrequencyWrite => 7,
-        Stage::RiseWrite => 8,
-        Stage::ClockWrite => 9,
-        Stage::EnableRead => 10,
-        Stage::EnableWrite => 11,
-        Stage::Ended => 12,
-    }
+    x as u8
 }
 
 fn stage_of(number: u8) -> Stage
@@ -55,17 +34,16 @@ fn stage_of(number: u8) -> Stage
 }
 
 // What a block says of a state.
+#[tactic(auto, unfolding(crate::specs::InitImage::init_fields))]
 pub fn init_fields(s: State) -> Fields
     ensures { result ≡ init_fields s }
 {
-    let chip = s.chip;
     let timing = s.timing;
-    let stage = s.stage;
     Fields {
         entry: 1,
-        chip: numbers::chip_number(chip),
+        chip: numbers::chip_number(s.chip),
         option: 0,
-        stage: stage_number(stage),
+        stage: stage_number(s.stage),
         what: 0,
         phase: 0,
         marks: numbers::flags_number(timing.fast, timing.duty, false, false),
@@ -86,13 +64,12 @@ pub fn init_fields(s: State) -> Fields
 }
 
 // The state that a block says, if it is the image of one.
+#[tactic(auto, unfolding(crate::specs::InitImage::init_of))]
 fn init_of(f: Fields) -> State
     ensures { result ≡ init_of f }
 {
-    let chip = numbers::chip_of(f.chip);
-    let stage = stage_of(f.stage);
     State {
-        chip,
+        chip: numbers::chip_of(f.chip),
         timing: Timing {
             input_mhz: f.mhz,
             rise: f.second,
@@ -100,18 +77,16 @@ fn init_of(f: Fields) -> State
             fast: numbers::flag_at(1, f.marks),
             duty: numbers::flag_at(2, f.marks),
         },
-        stage,
+        stage: stage_of(f.stage),
         saved: f.word,
     }
 }
 
-pub fn init_in(f: Fields) -> InitFound
+// (`init_slave_in` is alike: a generic one would need a trait with a law for both conversions, longer than the two.)
+#[tactic(auto, unfolding(crate::specs::InitImage::init_in))]
+pub fn init_in(f: Fields) -> Option<State>
     ensures { result ≡ init_in f }
 {
     let state = init_of(f);
-    if fields::same_fields(init_fields(state), f) {
-        InitFound::At(state)
-    } else {
-        InitFound::Nothing
-    }
+    fields::same_fields(init_fields(state), f).then_some(state)
 }

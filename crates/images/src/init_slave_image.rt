@@ -1,33 +1,16 @@
 // The state of `init_slave` in a block.
 ghost use Rattle.std.specs.Prelude.{◌≡◌};
-ghost use Rattle.images.specs.InitSlaveImage.{init_stage_number, init_stage_of, is_ten, address_word, address_of, has_second, second_byte, second_of, init_slave_fields, init_slave_of, init_slave_in};
+ghost use Rattle.images.specs.InitSlaveImage.{init_stage_number, init_stage_of, is_ten, address_word, address_of, second_of, init_slave_fields, init_slave_of, init_slave_in};
 
 use crate::numbers;
 use block::{Fields, fields};
 use slave::init::{InitStage, InitState};
-use slave::{SecondAddress, SlaveAddress, SlaveConfig};
-
-// What a block says of `init_slave`, if it is the image of a state.
-#[derive(Clone, Copy)]
-pub enum InitSlaveFound {
-    At(InitState),
-    Nothing,
-}
+use slave::{SlaveAddress, SlaveConfig};
 
 fn init_stage_number(x: InitStage) -> u8
     ensures { result ≡ init_stage_number x }
 {
-    match x {
-        InitStage::DisableRead => 0,
-        InitStage::DisableWrite => 1,
-        InitStage::BufferRead => 2,
-        InitStage::BufferWrite => 3,
-        InitStage::Own => 4,
-        InitStage::Second => 5,
-        InitStage::EnableRead => 6,
-        InitStage::EnableWrite => 7,
-        InitStage::Ended => 8,
-    }
+    x as u8
 }
 
 fn init_stage_of(number: u8) -> InitStage
@@ -49,18 +32,14 @@ fn init_stage_of(number: u8) -> InitStage
 fn is_ten(address: SlaveAddress) -> bool
     ensures { result ≡ is_ten address }
 {
-    match address {
-        SlaveAddress::SevenBit(_) => false,
-        SlaveAddress::TenBit(_) => true,
-    }
+    matches!(address, SlaveAddress::TenBit(_))
 }
 
 fn address_word(address: SlaveAddress) -> u16
     ensures { result ≡ address_word address }
 {
     match address {
-        SlaveAddress::SevenBit(a) => a,
-        SlaveAddress::TenBit(a) => a,
+        SlaveAddress::SevenBit(a) | SlaveAddress::TenBit(a) => a,
     }
 }
 
@@ -74,45 +53,23 @@ pub fn address_of(ten: bool, word: u16) -> SlaveAddress
     }
 }
 
-fn has_second(second: SecondAddress) -> bool
-    ensures { result ≡ has_second second }
-{
-    match second {
-        SecondAddress::Nothing => false,
-        SecondAddress::At(_) => true,
-    }
-}
-
-fn second_byte(second: SecondAddress) -> u8
-    ensures { result ≡ second_byte second }
-{
-    match second {
-        SecondAddress::Nothing => 0,
-        SecondAddress::At(a) => a,
-    }
-}
-
-pub fn second_of(has: bool, byte: u8) -> SecondAddress
+pub fn second_of(has: bool, byte: u8) -> Option<u8>
     ensures { result ≡ second_of has byte }
 {
-    if has {
-        SecondAddress::At(byte)
-    } else {
-        SecondAddress::Nothing
-    }
+    has.then_some(byte)
 }
 
 // What a block says of a state.
+#[tactic(auto, unfolding(crate::specs::InitSlaveImage::init_slave_fields))]
 pub fn init_slave_fields(s: InitState) -> Fields
     ensures { result ≡ init_slave_fields s }
 {
     let config = s.config;
     let address = config.address;
     let second = config.second_address;
-    let stage = s.stage;
     let marks = numbers::flags_number(
         is_ten(address),
-        has_second(second),
+        second.is_some(),
         config.general_call,
         config.clock_stretching,
     );
@@ -120,7 +77,7 @@ pub fn init_slave_fields(s: InitState) -> Fields
         entry: 6,
         chip: 0,
         option: 0,
-        stage: init_stage_number(stage),
+        stage: init_stage_number(s.stage),
         what: 0,
         phase: 0,
         marks,
@@ -134,38 +91,33 @@ pub fn init_slave_fields(s: InitState) -> Fields
         rise: 0,
         value: 0,
         count: 0,
-        second: second_byte(second),
+        second: second.unwrap_or(0),
         mhz: 0,
         extra: 0,
     }
 }
 
 // The state that a block says, if it is the image of one.
+#[tactic(auto, unfolding(crate::specs::InitSlaveImage::init_slave_of))]
 fn init_slave_of(f: Fields) -> InitState
     ensures { result ≡ init_slave_of f }
 {
-    let address = address_of(numbers::flag_at(1, f.marks), f.address);
-    let second = second_of(numbers::flag_at(2, f.marks), f.second);
-    let stage = init_stage_of(f.stage);
     InitState {
         config: SlaveConfig {
-            address,
-            second_address: second,
+            address: address_of(numbers::flag_at(1, f.marks), f.address),
+            second_address: second_of(numbers::flag_at(2, f.marks), f.second),
             general_call: numbers::flag_at(4, f.marks),
             clock_stretching: numbers::flag_at(8, f.marks),
         },
-        stage,
+        stage: init_stage_of(f.stage),
         saved: f.word,
     }
 }
 
-pub fn init_slave_in(f: Fields) -> InitSlaveFound
+#[tactic(auto, unfolding(crate::specs::InitSlaveImage::init_slave_in))]
+pub fn init_slave_in(f: Fields) -> Option<InitState>
     ensures { result ≡ init_slave_in f }
 {
     let state = init_slave_of(f);
-    if fields::same_fields(init_slave_fields(state), f) {
-        InitSlaveFound::At(state)
-    } else {
-        InitSlaveFound::Nothing
-    }
+    fields::same_fields(init_slave_fields(state), f).then_some(state)
 }

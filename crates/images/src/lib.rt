@@ -6,4 +6,3 @@ pub mod init_image;
 pub mod init_slave_image;
 pub mod master_image;
 pub mod numbers;
-pub mod slave_image;

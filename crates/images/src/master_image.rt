@@ -2,26 +2,12 @@
 ghost use Rattle.std.specs.Prelude.{◌≡◌};
 ghost use Rattle.images.specs.MasterImage.{frame_options_number, frame_options_of, kind_entry, kind_option, is_kind};
 
-use master::{FrameOptions, Kind, State};
-
-// What a block says of a master call, if it is the image of a state.
-#[derive(Clone, Copy)]
-pub enum MasterFound {
-    At(State),
-    Nothing,
-}
+use master::{FrameOptions, Kind};
 
 fn frame_options_number(x: FrameOptions) -> u8
     ensures { result ≡ frame_options_number x }
 {
-    match x {
-        FrameOptions::FirstAndLastFrame => 0,
-        FrameOptions::FirstFrame => 1,
-        FrameOptions::FirstAndNextFrame => 2,
-        FrameOptions::NextFrame => 3,
-        FrameOptions::LastFrame => 4,
-        FrameOptions::LastFrameNoStop => 5,
-    }
+    x as u8
 }
 
 pub fn frame_options_of(number: u8) -> FrameOptions
@@ -52,14 +38,13 @@ pub fn kind_option(kind: Kind) -> u8
     ensures { result ≡ kind_option kind }
 {
     match kind {
-        Kind::Transaction => 0,
-        Kind::WriteRead => 0,
-        Kind::Write(options) => frame_options_number(options),
-        Kind::Read(options) => frame_options_number(options),
+        Kind::Transaction | Kind::WriteRead => 0,
+        Kind::Write(options) | Kind::Read(options) => frame_options_number(options),
     }
 }
 
 // Whether these are the numbers of a kind: only a frame has an option.
+#[tactic(auto, unfolding(crate::specs::MasterImage::is_kind))]
 pub fn is_kind(entry: u8, option: u8) -> bool
     ensures { result ≡ is_kind entry option }
 {

@@ -25,7 +25,7 @@ pub fn flag_number(b: bool) -> u8
     ensures value { result ≡ flag_number b }
     ensures upper_bound { result ≤ 1 }
 {
-    if b { 1 } else { 0 }
+    u8::from(b)
 }
 
 // Four flags in a number.
@@ -44,6 +44,7 @@ pub fn flag_at(weight: u8, number: u8) -> bool
 }
 
 // Whether a number is that of a flag.
+#[tactic(auto, unfolding(crate::specs::Numbers::is_flag))]
 pub fn is_flag(number: u8) -> bool
     ensures { result ≡ is_flag number }
 {
@@ -65,6 +66,7 @@ pub fn chip_of(number: u8) -> Chip
     }
 }
 
+#[tactic(auto, unfolding(crate::specs::Numbers::is_chip))]
 pub fn is_chip(number: u8) -> bool
     ensures { result ≡ is_chip number }
 {

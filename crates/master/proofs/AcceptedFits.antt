@@ -8,9 +8,9 @@ use Prim.Native.Nat.{ℕ, zero, suc, ◌+◌, ◌≤◌}
 use native.Mathlib.Omega.{arith}
 use lib.Dec.{eqb, ltb}
 use lib.ListN.{length}
+use Rattle.std.specs.Prelude.{Some}
 use Rattle.access.specs.declared.ending.Error.TheVariants.{Overrun, InvalidAddress}
 use Rattle.operations.specs.declared.search.Run.{Run}
-use Rattle.operations.specs.declared.search.FoundRun.TheVariants.{At}
 use Rattle.operations.specs.Operations.{operations_of}
 use Rattle.operations.specs.Runs.{Span, runs_of, run_from, run_at, written_sum, read_sum}
 use Rattle.operations.proofs.RunLaws.{few_runs, few_operations}
@@ -36,7 +36,7 @@ joined_runs (JR n ∷ js) f = ((λ _. f.0), joined_runs js f.1)
 
 -- runs without an empty read, few and small
 sound_runs : (g : Setting) (rs : List Span) → FilledRuns rs → length rs ≤ 65535 → written_sum rs + read_sum rs ≤ 65535
-    → ((k : ℕ) (r : Run) → run_at rs k ≡ At r → r.more ≡ true → g.frame.send_start ≡ true) → Sound (record { setting = g; runs = rs })
+    → ((k : ℕ) (r : Run) → run_at rs k ≡ Some r → r.more ≡ true → g.frame.send_start ≡ true) → Sound (record { setting = g; runs = rs })
 sound_runs g rs filled few small starts =
     record {
       readable = λ k r f. found_filled rs 0 0 k r filled f;
@@ -45,11 +45,11 @@ sound_runs g rs filled few small starts =
       started = starts;
     }
   where
-    next : (k : ℕ) (r : Run) → run_at rs k ≡ At r → (t : Run) × (run_at rs (suc k) ≡ At t) → (t : Run) × (run_at rs (Rattle.master.specs.Machine.next16 k) ≡ At t)
+    next : (k : ℕ) (r : Run) → run_at rs k ≡ Some r → (t : Run) × (run_at rs (suc k) ≡ Some t) → (t : Run) × (run_at rs (Rattle.master.specs.Machine.next16 k) ≡ Some t)
     next k r f t = (t.0, ap (λ (x : ℕ). run_at rs x) (next_place k (omega (arith, few, found_below rs 0 0 k r f, found_below rs 0 0 (suc k) t.0 t.1))) ∙ t.1)
 
 -- a single run is the last
-last_alone : (s : Span) (k : ℕ) (r : Run) → run_at (s ∷ []) k ≡ At r → r.more ≡ true → ⊥
+last_alone : (s : Span) (k : ℕ) (r : Run) → run_at (s ∷ []) k ≡ Some r → r.more ≡ true → ⊥
 unfolding run_from
 last_alone s zero r f m = true≢false (sym (ap (λ (y : Run). y.more) (same_run f) ∙ m))
 last_alone s (suc k) r f m = not_found f

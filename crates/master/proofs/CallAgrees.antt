@@ -1,5 +1,6 @@
 -- The calls of the master show what the Rust shows: every kind, refused calls included.
 -- Assumes nothing.
+use Rattle.std.specs.Prelude.{Err}
 use mathlib.Core.Path.{◌≡◌, refl, sym, ap, ◌∙◌}
 use mathlib.Core.Bool.{Bool, true, false, cond, not, ◌||◌, true≢false}
 use mathlib.Core.List.{List, [], ◌∷◌, map, append-nil}
@@ -14,7 +15,6 @@ use Rattle.registers.specs.declared.chip.Chip.{Chip}
 use Rattle.access.specs.declared.ending.Error.{Error}
 use Rattle.access.specs.declared.ending.Error.TheVariants.{Overrun, BufferTooLong, InvalidAddress, TooManyOperations, LengthMismatch, InvalidArgument}
 use Rattle.access.specs.declared.ending.Failure.{Failure}
-use Rattle.access.specs.declared.ending.Ending.TheVariants.{Failed}
 use Rattle.access.specs.Endings.{done, failure_of}
 use Rattle.access.specs.Program.{Program, finish}
 use Rattle.access.specs.Record.{Shown, shown_of}
@@ -45,7 +45,7 @@ use Rattle.master.proofs.RunsAgree.{resumes, runs_agree}
 
 -- what follows an error in a whole call, and its answer
 abbrev h : Failure → Program
-h x = finish (Failed x)
+h x = finish (Err x)
 
 abbrev k : Unit {0} → Program
 k _ = finish done

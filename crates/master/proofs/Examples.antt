@@ -1,5 +1,6 @@
 -- Document 01's bench example in layers 1 and 2, and pairs of calls of which secrecy speaks, by computation.
 -- Assumes nothing.
+use Rattle.std.specs.Prelude.{Err}
 use mathlib.Core.Path.{◌≡◌, refl}
 use mathlib.Core.Bool.{false}
 use mathlib.Core.List.{List, [], ◌∷◌}
@@ -11,10 +12,8 @@ use Rattle.registers.specs.declared.register.Register.TheVariants.{Ctlr1, Ctlr2,
 use Rattle.registers.specs.Word.{has_bit, put_bit, field_of, put_field}
 use Rattle.registers.specs.Flags.{error_flags, clear_error}
 use Rattle.registers.specs.Addresses.{address_word}
-use Rattle.access.specs.declared.ending.Ending.{Ending}
-use Rattle.access.specs.declared.ending.Ending.TheVariants.{Failed}
 use Rattle.access.specs.declared.ending.Error.TheVariants.{Arbitration, Nack, Timeout}
-use Rattle.access.specs.Endings.{flagged, done, failed}
+use Rattle.access.specs.Endings.{Ending, flagged, done, failed}
 use Rattle.access.specs.Program.{read, write, late, check_timeout}
 use Rattle.access.specs.Record.{Event, Shown, DifferInPayload, Same, SameStruck}
 use Rattle.operations.specs.declared.operation.Direction.TheVariants as direction
@@ -60,7 +59,7 @@ expected e =
     }
 
 -- our error check says the flags with the error, and the Rust's does not
-in_layer_2 : call_shown call empty_write given ≡ expected (Failed (flagged Nack 0x0400))
+in_layer_2 : call_shown call empty_write given ≡ expected (Err (flagged Nack 0x0400))
 unfolding call_shown refusal shaped fault_from operations_of runs_of runs_from run_from owed advance has_bit put_bit field_of put_field error_flags clear_error address_word error_of late
 in_layer_2 = refl
 
@@ -68,7 +67,7 @@ in_the_rust : rust_with 18 call empty_write given ≡ expected (failed Nack)
 unfolding rust_with operations_of rust.blocking_transaction rust.validate_address rust.validate_operations rust.validate_from rust.transact rust.write_group rust.write_bytes rust.start_and_address rust.launch_start rust.wait_stop_finished rust.wait_flag rust.check_and_clear_error_flags rust.abort_transfer rust.finish_transfer rust.generate_stop rust.checked_add has_bit put_bit field_of put_field error_flags clear_error address_word check_timeout late
 in_the_rust = refl
 
-in_ours : ours_with 18 call empty_write given ≡ expected (Failed (flagged Nack 0x0400))
+in_ours : ours_with 18 call empty_write given ≡ expected (Err (flagged Nack 0x0400))
 unfolding ours_with operations_of rust.blocking_transaction rust.validate_address rust.validate_operations rust.validate_from rust.transact rust.write_group rust.write_bytes rust.start_and_address rust.launch_start rust.wait_stop_finished rust.wait_flag ours.check_and_clear_error_flags check_errors error_of rust.abort_transfer rust.finish_transfer rust.generate_stop rust.checked_add has_bit put_bit field_of put_field error_flags clear_error address_word check_timeout late
 in_ours = refl
 
@@ -77,7 +76,7 @@ in_ours = refl
 abbrev both : List ℕ
 both = 0 ∷ 0 ∷ 0 ∷ 0 ∷ 0 ∷ 0x0100 ∷ 0 ∷ 0 ∷ 0x0a00 ∷ 0 ∷ 0 ∷ 0 ∷ 0 ∷ 1 ∷ 0x8000 ∷ 0 ∷ []
 
-both_shown : (call_shown call empty_write both).end ≡ some (Failed (flagged Arbitration 0x0a00))
+both_shown : (call_shown call empty_write both).end ≡ some (Err (flagged Arbitration 0x0a00))
 unfolding call_shown refusal shaped fault_from operations_of runs_of runs_from run_from owed advance has_bit put_bit field_of put_field error_flags clear_error address_word error_of late
 both_shown = refl
 

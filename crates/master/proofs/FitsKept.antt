@@ -6,6 +6,7 @@ use Prim.Native.Nat.{ℕ, zero, suc, pred, ◌+◌, ◌≤◌, ◌<◌}
 use native.Mathlib.Omega.{arith}
 use borrow.Author.Tests.{lt-ltb, le-leb, leb-true, ltb-true, eq-eqb, eqb-true, eqb-false, not-true}
 use lib.Dec.{eqb, leb, ltb}
+use Rattle.std.specs.Prelude.{Option, Some, None}
 use Rattle.registers.specs.Word.{has_bit}
 use Rattle.registers.specs.Flags.{error_flags}
 use Rattle.registers.specs.Bits.{START, STOP, SB, RXNE, MSL}
@@ -14,14 +15,10 @@ use Rattle.access.specs.declared.ending.Error.TheVariants.{Arbitration, Timeout}
 use Rattle.access.specs.Endings.{failure_of, is_done}
 use Rattle.access.specs.Program.{late}
 use Rattle.access.proofs.Choice.{chosen, both_true, first_true, second_true, first_false, either_true, other_true, same_true, true_same}
-use Rattle.errors.specs.declared.Checked.{Checked}
-use Rattle.errors.specs.declared.Checked.TheVariants as checked
 use Rattle.errors.specs.Classes.{error_of, decided}
 use Rattle.errors.specs.Met.{is_met, has_failed}
 use Rattle.errors.proofs.MetLaws.{found_met, unchecked_met}
 use Rattle.operations.specs.declared.search.Run.{Run}
-use Rattle.operations.specs.declared.search.FoundRun.{FoundRun}
-use Rattle.operations.specs.declared.search.FoundRun.TheVariants.{At, Nothing}
 use Rattle.operations.specs.Operations.{is_read}
 use Rattle.operations.specs.Runs.{run_at}
 use Rattle.master.specs.declared.call.Setting.{Setting}
@@ -57,10 +54,10 @@ use Rattle.master.proofs.Counts.{next_place, positive, suc_of}
 
 -- what an accepted call's runs are like
 pub record Sound (sh : Shape) : Type 0 where
-  pub readable : (k : ℕ) (r : Run) → run_at sh.runs k ≡ At r → is_read r.direction ≡ true → 0 < r.length
-  pub small : (k : ℕ) (r : Run) → run_at sh.runs k ≡ At r → r.before + r.length ≤ 65535
-  pub follows : (k : ℕ) (r : Run) → run_at sh.runs k ≡ At r → r.more ≡ true → (t : Run) × (run_at sh.runs (next16 k) ≡ At t)
-  pub started : (k : ℕ) (r : Run) → run_at sh.runs k ≡ At r → r.more ≡ true → sh.setting.frame.send_start ≡ true
+  pub readable : (k : ℕ) (r : Run) → run_at sh.runs k ≡ Some r → is_read r.direction ≡ true → 0 < r.length
+  pub small : (k : ℕ) (r : Run) → run_at sh.runs k ≡ Some r → r.before + r.length ≤ 65535
+  pub follows : (k : ℕ) (r : Run) → run_at sh.runs k ≡ Some r → r.more ≡ true → (t : Run) × (run_at sh.runs (next16 k) ≡ Some t)
+  pub started : (k : ℕ) (r : Run) → run_at sh.runs k ≡ Some r → r.more ≡ true → sh.setting.frame.send_start ≡ true
 
 split : (a b : Bool) → a && b ≡ true → (a ≡ true) × (b ≡ true)
 split a b e = (first_true a b e, second_true a b e)
@@ -81,7 +78,7 @@ module _ (sh : Shape) (sound : Sound sh) where
 
   -- the run that a progress is in, and its counts
   record In (r : Run) (d : Progress) : Type 0 where
-    found : run_at sh.runs d.run ≡ At r
+    found : run_at sh.runs d.run ≡ Some r
     same : d.reading ≡ is_read r.direction
     within : d.left ≤ r.length
     rest : d.place + d.left ≡ r.before + r.length
@@ -94,13 +91,13 @@ module _ (sh : Shape) (sound : Sound sh) where
   in_counts : {r : Run} {d : Progress} → In r d → counts r d ≡ true
   in_counts {r} {d} h = both_true (same_true h.same) (both_true (le-leb d.left r.length h.within) (eq-eqb _ _ h.rest))
 
-  counts_in : {r : Run} {d : Progress} → run_at sh.runs d.run ≡ At r → counts r d ≡ true → In r d
+  counts_in : {r : Run} {d : Progress} → run_at sh.runs d.run ≡ Some r → counts r d ≡ true → In r d
   counts_in {r} {d} f e =
       let p = split (beq (is_read r.direction) d.reading) (leb d.left r.length && eqb (d.place + d.left) (r.before + r.length)) e in
       let q = split (leb d.left r.length) (eqb (d.place + d.left) (r.before + r.length)) p.1 in
       record { found = f; same = true_same _ _ p.0; within = leb-true d.left r.length q.0; rest = eqb-true _ _ q.1 }
 
-  at : {r : Run} (st : Stage) (d : Progress) → run_at sh.runs d.run ≡ At r → fits_at g r st d ≡ true → Fit (to st d)
+  at : {r : Run} (st : Stage) (d : Progress) → run_at sh.runs d.run ≡ Some r → fits_at g r st d ≡ true → Fit (to st d)
   unfolding fits
   at st d f e = ap (λ x. fits_found g x st d) f ∙ e
 
@@ -108,7 +105,7 @@ module _ (sh : Shape) (sound : Sound sh) where
   running : {r : Run} {d : Progress} {b : Bool} → Here r d → b ≡ true → runs r b d ≡ true
   running h e = both_true (in_counts h.where_in) (both_true h.unfailed e)
 
-  here : {r : Run} {d : Progress} (b : Bool) → run_at sh.runs d.run ≡ At r → runs r b d ≡ true → Here r d × (b ≡ true)
+  here : {r : Run} {d : Progress} (b : Bool) → run_at sh.runs d.run ≡ Some r → runs r b d ≡ true → Here r d × (b ≡ true)
   here {r} {d} b f e =
       let p = split (counts r d) (is_done d.ending && b) e in
       let q = split (is_done d.ending) b p.1 in
@@ -299,10 +296,10 @@ module _ (sh : Shape) (sound : Sound sh) where
   tests_fits : {r : Run} {d : Progress} (f : Flag) (w : ℕ) → Here r d → fits_wait g r f d ≡ true → Fit (tests g r f d w)
   tests_fits {r} {d} f w h e = chosen Fit (not (is_set f w)) (λ _. waiting_fits f wait.Clock h e) (λ _. waited_fits f h e)
 
-  judged_fits : {r : Run} {d : Progress} (f : Flag) (c : Checked) (w : ℕ) → decided c (λ x. is_met g.chip true x ≡ true) (Unit {0}) → Here r d → fits_wait g r f d ≡ true
+  judged_fits : {r : Run} {d : Progress} (f : Flag) (c : Option Failure) (w : ℕ) → decided c (λ x. is_met g.chip true x ≡ true) (Unit {0}) → Here r d → fits_wait g r f d ≡ true
       → Fit (decided c (λ x. fails x d) (tests g r f d w))
-  judged_fits f (checked.Failed x) w m h e = fails_fits x h m
-  judged_fits f checked.Fine w m h e = tests_fits f w h e
+  judged_fits f (Some x) w m h e = fails_fits x h m
+  judged_fits f None w m h e = tests_fits f w h e
 
   -- what is waited for does not depend on the word that is saved
   same_wait : (r : Run) (d : Progress) (f : Flag) (w : ℕ) → fits_wait g r f d ≡ true → fits_wait g r f (saves w d) ≡ true
@@ -421,7 +418,7 @@ module _ (sh : Shape) (sound : Sound sh) where
 
   -- an error has been met, and the run's counts stay
   record Aborts (r : Run) (d : Progress) : Type 0 where
-    found : run_at sh.runs d.run ≡ At r
+    found : run_at sh.runs d.run ≡ Some r
     stay : counts r d ≡ true
     failed : has_failed g.chip true d.ending ≡ true
 
@@ -460,10 +457,10 @@ module _ (sh : Shape) (sound : Sound sh) where
 
   -- ---- a run begins
 
-  begun_here : {r : Run} (d : Progress) → run_at sh.runs d.run ≡ At r → is_done d.ending ≡ true → Here r (begun r d)
+  begun_here : {r : Run} (d : Progress) → run_at sh.runs d.run ≡ Some r → is_done d.ending ≡ true → Here r (begun r d)
   begun_here {r} d f e = record { where_in = record { found = f; same = refl; within = omega arith; rest = refl }; unfailed = e }
 
-  begins_fits : {r : Run} (d : Progress) (a : ℕ) → run_at sh.runs d.run ≡ At r → is_done d.ending ≡ true → is_read r.direction || g.frame.send_start ≡ true
+  begins_fits : {r : Run} (d : Progress) (a : ℕ) → run_at sh.runs d.run ≡ Some r → is_done d.ending ≡ true → is_read r.direction || g.frame.send_start ≡ true
       → Fit (begins (begun r d) a)
   begins_fits {r} d a f e q =
       let h = begun_here d f e in
@@ -471,7 +468,7 @@ module _ (sh : Shape) (sound : Sound sh) where
       (λ w. at (ReadIter reading.PosWrite) (saves a (begun r d)) f (running (saved a h) (both_true w (eq-eqb r.length r.length refl))))
       (λ w. stop_fits fall.Start falling.Control a h (both_true (ap (λ (b : Bool). b || g.frame.send_start) (sym w) ∙ q) (eq-eqb r.length r.length refl)))
 
-  kept_at : (r : Run) (st : Stage) (d : Progress) (a : ℕ) → run_at sh.runs d.run ≡ At r → fits_at g r st d ≡ true → Fit (advance_at g r st d a)
+  kept_at : (r : Run) (st : Stage) (d : Progress) (a : ℕ) → run_at sh.runs d.run ≡ Some r → fits_at g r st d ≡ true → Fit (advance_at g r st d a)
   kept_at r Begin d a f e =
       let p = split (untouched d) (is_done d.ending && (is_read r.direction || g.frame.send_start)) e in
       let q = split (is_done d.ending) (is_read r.direction || g.frame.send_start) p.1 in
@@ -506,7 +503,7 @@ module _ (sh : Shape) (sound : Sound sh) where
   kept_at r Ended d a f e = at Ended d f e
 
   -- a state without a run is that of an empty list, which has ended
-  kept_nothing : (st : Stage) (d : Progress) (a : ℕ) → run_at sh.runs d.run ≡ Nothing → fits_nothing st d ≡ true → Fit (advance_at g (found_run Nothing) st d a)
+  kept_nothing : (st : Stage) (d : Progress) (a : ℕ) → run_at sh.runs d.run ≡ None → fits_nothing st d ≡ true → Fit (advance_at g (found_run None) st d a)
   unfolding fits
   kept_nothing Begin d a f e = absurd (true≢false (sym e))
   kept_nothing (WaitStop x st) d a f e = absurd (true≢false (sym e))
@@ -524,13 +521,13 @@ module _ (sh : Shape) (sound : Sound sh) where
   unfolding fits advance
   fits_kept m a e = go (run_at sh.runs m.progress.run) refl e
     where
-      go : (x : FoundRun) → run_at sh.runs m.progress.run ≡ x → fits_found g x m.stage m.progress ≡ true → Fit (advance_at g (found_run x) m.stage m.progress a)
-      go (At r) f e = kept_at r m.stage m.progress a f e
-      go Nothing f e = kept_nothing m.stage m.progress a f e
+      go : (x : Option Run) → run_at sh.runs m.progress.run ≡ x → fits_found g x m.stage m.progress ≡ true → Fit (advance_at g (found_run x) m.stage m.progress a)
+      go (Some r) f e = kept_at r m.stage m.progress a f e
+      go None f e = kept_nothing m.stage m.progress a f e
 
   -- ---- the start
 
-  run_starts : (r : Run) → run_at sh.runs 0 ≡ At r → Fit (begins_at g r)
+  run_starts : (r : Run) → run_at sh.runs 0 ≡ Some r → Fit (begins_at g r)
   run_starts r f = chosen Fit (is_read r.direction || g.frame.send_start) begins_run sends_at_once
     where
       begins_run : is_read r.direction || g.frame.send_start ≡ true → Fit (to Begin fresh)
@@ -544,6 +541,6 @@ module _ (sh : Shape) (sound : Sound sh) where
   unfolding fits
   fits_start = go (run_at sh.runs 0) refl
     where
-      go : (x : FoundRun) → run_at sh.runs 0 ≡ x → Fit (start_with g x)
-      go (At r) f = run_starts r f
-      go Nothing f = ap (λ x. fits_found g x Ended fresh) f
+      go : (x : Option Run) → run_at sh.runs 0 ≡ x → Fit (start_with g x)
+      go (Some r) f = run_starts r f
+      go None f = ap (λ x. fits_found g x Ended fresh) f

@@ -10,6 +10,7 @@ use native.Mathlib.Omega.{arith}
 use borrow.Author.Tests.{ne_eqb, not-false, eqb-true}
 use lib.Dec.{eqb, leb, ltb, eqb-suc-zero}
 use lib.ListN.{length, get_or, drop}
+use Rattle.std.specs.Prelude.{Option, Some, None, Err}
 use Rattle.registers.specs.declared.register.Register.TheVariants.{Ctlr1, Ctlr2, Datar, Star1, Star2, Ckcfgr, Rtr}
 use Rattle.registers.specs.Bits.{PE, START, STOP, ACK, POS, SWRST, SB, ADDR, BTF, RXNE, TXE, MSL}
 use Rattle.registers.specs.Fields.{FREQ, DATA}
@@ -19,13 +20,10 @@ use Rattle.registers.specs.Addresses.{address_word}
 use Rattle.registers.proofs.TransferLaws.{transfer_off}
 use Rattle.access.specs.declared.ending.Error.TheVariants.{Arbitration, Timeout}
 use Rattle.access.specs.declared.ending.Failure.{Failure}
-use Rattle.access.specs.declared.ending.Ending.TheVariants.{Failed}
 use Rattle.access.specs.declared.need.Need.TheVariants as need
 use Rattle.access.specs.Endings.{failure_of}
 use Rattle.access.specs.Program.{Program, finish, access, keep, read, write, clock, spin, late, check_timeout, for_each}
 use Rattle.access.proofs.Agreement.{Agree, no_answers, weaken, ends, reads_first, reads, writes, asks, sends, keeps, cases, cases_with, both_false, passes, along, program_is}
-use Rattle.errors.specs.declared.Checked.{Checked}
-use Rattle.errors.specs.declared.Checked.TheVariants as checked
 use Rattle.errors.specs.Classes.{error_of, decided}
 use Rattle.errors.specs.Check.{check_errors}
 use Rattle.errors.proofs.ClassLaws.{no_flags}
@@ -95,17 +93,17 @@ module _ (sh : Shape) (bytes : List ℕ) where
       → Ag n at
       (access (write Ctlr1 (put_bit SWRST true 0)) (λ _. access (write Ctlr1 (put_bit SWRST false 0)) (λ _. access (write Ctlr2 (put_field FREQ (field_of FREQ d.word) 0)) (λ _.
       access (write Ckcfgr d.divider) (λ _. cond chip.i2c_v3
-      (access (write Rtr d.rise) (λ _. access (write Ctlr1 (put_bit PE true 0)) (λ _. finish (Failed x))))
-      (access (write Ctlr1 (put_bit PE true 0)) (λ _. finish (Failed x))))))))
-      (to (Abort abort.Reset) (ends_with (Failed x) d))
+      (access (write Rtr d.rise) (λ _. access (write Ctlr1 (put_bit PE true 0)) (λ _. finish (Err x))))
+      (access (write Ctlr1 (put_bit PE true 0)) (λ _. finish (Err x))))))))
+      (to (Abort abort.Reset) (ends_with (Err x) d))
   unfolding owed advance
   reset_agrees n at d x =
       writes refl (λ _. writes refl (λ _. writes refl (λ _. writes refl (λ _. cases chip.i2c_v3
-      (writes refl (λ _. writes refl (λ _. ends (Failed x) refl)))
-      (writes refl (λ _. ends (Failed x) refl))))))
+      (writes refl (λ _. writes refl (λ _. ends (Err x) refl)))
+      (writes refl (λ _. ends (Err x) refl))))))
 
   pub abort_transfer_agrees : (n at : ℕ) (x : Failure) (h : Failure → Program) (d : Progress)
-      → Ag n at (abort_transfer chip n h (λ _. finish (Failed x))) (fails x d)
+      → Ag n at (abort_transfer chip n h (λ _. finish (Err x))) (fails x d)
   unfolding abort_transfer finish_transfer generate_stop owed advance
   abort_transfer_agrees n at x h d =
       reads refl (λ a. writes (ap (need.Write Ctlr2) (sym (transfer_off a))) (λ _. reads refl (λ c. cases (has_bit START c || has_bit STOP c)
@@ -113,19 +111,19 @@ module _ (sh : Shape) (bytes : List ℕ) where
       (λ _. reads refl (λ r. reset_agrees n at (saves_rise r (saves_divider v (saves f d))) x))
       (λ absent. without_rise n f v absent))))
       (reads refl (λ m. cases (has_bit MSL m)
-      (reads refl (λ w. writes refl (λ _. ends (Failed x) refl)))
-      (ends (Failed x) refl))))))
+      (reads refl (λ w. writes refl (λ _. ends (Err x) refl)))
+      (ends (Err x) refl))))))
     where
       -- without i2c_v3 no rise time is kept
       without_rise : (n f v : ℕ) → chip.i2c_v3 ≡ false
           → Ag n at
           (access (write Ctlr1 (put_bit SWRST true 0)) (λ _. access (write Ctlr1 (put_bit SWRST false 0)) (λ _. access (write Ctlr2 (put_field FREQ (field_of FREQ f) 0)) (λ _.
           access (write Ckcfgr v) (λ _. cond chip.i2c_v3
-          (access (write Rtr 0) (λ _. access (write Ctlr1 (put_bit PE true 0)) (λ _. finish (Failed x))))
-          (access (write Ctlr1 (put_bit PE true 0)) (λ _. finish (Failed x))))))))
-          (to (Abort abort.Reset) (saves_divider v (saves f (ends_with (Failed x) d))))
+          (access (write Rtr 0) (λ _. access (write Ctlr1 (put_bit PE true 0)) (λ _. finish (Err x))))
+          (access (write Ctlr1 (put_bit PE true 0)) (λ _. finish (Err x))))))))
+          (to (Abort abort.Reset) (saves_divider v (saves f (ends_with (Err x) d))))
       without_rise n f v absent =
-          writes refl (λ _. writes refl (λ _. writes refl (λ _. writes refl (λ _. both_false _ _ absent (writes refl (λ _. ends (Failed x) refl))))))
+          writes refl (λ _. writes refl (λ _. writes refl (λ _. writes refl (λ _. both_false _ _ absent (writes refl (λ _. ends (Err x) refl))))))
 
   -- ---- wait_stop_finished
 
@@ -168,10 +166,10 @@ module _ (sh : Shape) (bytes : List ℕ) where
 
   -- ---- check_and_clear_error_flags
 
-  judged_agrees : (n at : ℕ) (c : Checked) (h : Failure → Program) (p : Program) (d : Progress) (m : Move) → Handles n h → Ag n at p m
+  judged_agrees : (n at : ℕ) (c : Option Failure) (h : Failure → Program) (p : Program) (d : Progress) (m : Move) → Handles n h → Ag n at p m
       → Ag n at (decided c h p) (decided c (λ x. fails x d) m)
-  judged_agrees n at (checked.Failed x) h p d m H K = H at x d
-  judged_agrees n at checked.Fine h p d m H K = K
+  judged_agrees n at (Some x) h p d m H K = H at x d
+  judged_agrees n at None h p d m H K = K
 
   pub check_and_clear_error_flags_agrees : (m n at : ℕ) (f : Flag) (h : Failure → Program) (k : ℕ → Program) (d : Progress) → Handles m h
       → ((a v : ℕ) → Ag m at (k a) (tests sh.setting (run d) f (saves v d) a))
@@ -270,7 +268,7 @@ module _ (sh : Shape) (bytes : List ℕ) where
   pub write_bytes_agrees : ltb 0x7f sh.setting.address ≡ false → (n at : ℕ) (k : Unit {0} → Program) (bs tail : List ℕ) (p : ℕ) (d : Progress)
       → begun (run d) d ≡ counted false (length bs) p d → length bytes ≤ 65535 → drop p bytes ≡ bs ++ tail
       → ((v q : ℕ) → drop q bytes ≡ tail → Ag n at (k tt) (continues (run d) (counted false 0 q (saves v d))))
-      → Ag n at (write_bytes chip sh.setting.address bs (frame_in d) n (λ x. finish (Failed x)) k)
+      → Ag n at (write_bytes chip sh.setting.address bs (frame_in d) n (λ x. finish (Err x)) k)
       (cond sh.setting.frame.send_start (to Begin d) (write_bytes_move sh.setting (run d) (counted false (length bs) p d)))
   unfolding text.write_bytes validate_address text.start_and_address launch_start started owed advance
   write_bytes_agrees ok n at k bs tail p d q short e K =
@@ -279,10 +277,10 @@ module _ (sh : Shape) (bytes : List ℕ) where
       (bytes_agree n at h _ bs tail p d short e H close))
     where
       h : Failure → Program
-      h x = abort_transfer chip n (λ x. finish (Failed x)) (λ _. finish (Failed x))
+      h x = abort_transfer chip n (λ x. finish (Err x)) (λ _. finish (Err x))
 
       H : Handles n h
-      H at x d = abort_transfer_agrees n at x (λ x. finish (Failed x)) d
+      H at x d = abort_transfer_agrees n at x (λ x. finish (Err x)) d
 
       close : (v q : ℕ) → drop q bytes ≡ tail
           → Ag n at (cond (stops_here sh.setting (run d)) (access (read Ctlr1) (λ w. access (write Ctlr1 (put_bit STOP true w)) (λ _. wait_stop_finished chip n h k))) (k tt))
@@ -444,7 +442,7 @@ module _ (sh : Shape) (bytes : List ℕ) where
   pub blocking_read_iter_agrees : ltb 0x7f sh.setting.address ≡ false → (n at : ℕ) (k : Unit {0} → Program) (m : ℕ) (d : Progress)
       → begun (run d) d ≡ counted true (suc m) at d → at + suc m ≤ 65535
       → ((v : ℕ) → Ag n (at + suc m) (k tt) (continues (run d) (counted true 0 (at + suc m) (saves v d))))
-      → Ag n at (blocking_read_iter chip sh.setting.address (suc m) (frame_in d) n (λ x. finish (Failed x)) k) (to Begin d)
+      → Ag n at (blocking_read_iter chip sh.setting.address (suc m) (frame_in d) n (λ x. finish (Err x)) k) (to Begin d)
   unfolding text.blocking_read_iter validate_address text.start_and_address launch_start text.wait_btf started owed advance
   blocking_read_iter_agrees ok n at k m d q low K =
       passes _ ok (passes _ (eqb-suc-zero m) (reads refl (λ w. along (ap (λ x. begins x w) (sym q)) (writes refl (λ _. cases sh.setting.frame.send_start
@@ -455,10 +453,10 @@ module _ (sh : Shape) (bytes : List ℕ) where
       (bytes_read_agree n at h _ m (saves w d) low H close))))))
     where
       h : Failure → Program
-      h x = abort_transfer chip n (λ x. finish (Failed x)) (λ _. finish (Failed x))
+      h x = abort_transfer chip n (λ x. finish (Err x)) (λ _. finish (Err x))
 
       H : Handles n h
-      H at x d = abort_transfer_agrees n at x (λ x. finish (Failed x)) d
+      H at x d = abort_transfer_agrees n at x (λ x. finish (Err x)) d
 
       close : (v : ℕ) → Ag n (at + suc m)
           (cond (stops_here sh.setting (run d)) (wait_stop_finished chip n h (λ _. access (read Ctlr1) (λ w. access (write Ctlr1 (put_bit POS false w)) (λ _. k tt)))) (k tt))

@@ -8,9 +8,8 @@ use lib.Dec.{eqb}
 use Rattle.registers.specs.declared.chip.Chip.{Chip}
 use Rattle.registers.specs.declared.register.Register.TheVariants.{Star1}
 use Rattle.registers.specs.Flags.{error_flags}
-use Rattle.access.specs.declared.ending.Ending.{Ending}
 use Rattle.access.specs.declared.ending.Error.{Error}
-use Rattle.access.specs.Endings.{failed}
+use Rattle.access.specs.Endings.{Ending, failed}
 use Rattle.access.specs.Program.{Access, Blocking, pure, read_register, ◌>>◌, ◌>>=◌}
 use Rattle.alike.specs.Like.{forgetting, any_answer, Alike}
 use Rattle.alike.proofs.LikeLaws.{accesses, cases, calls, pure_alike, read_alike, read_then, ◌>>=-alike◌, ◌>>-alike◌, always, nothing_forgotten, forget_alike}

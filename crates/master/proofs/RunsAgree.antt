@@ -1,5 +1,6 @@
 -- The program of joined runs agrees with the machine, from the run that it is in to the end of the call.
 -- Assumes nothing.
+use Rattle.std.specs.Prelude.{Err}
 use mathlib.Core.Path.{◌≡◌, refl, sym, ap, ◌∙◌, subst}
 use mathlib.Core.Bool.{Bool, true, false}
 use mathlib.Core.List.{List, [], ◌∷◌, ◌++◌, map}
@@ -10,7 +11,6 @@ use lib.Dec.{ltb}
 use lib.ListN.{length, drop}
 use lib.Seq.{drop-drop, drop-append_seam}
 use Rattle.registers.specs.declared.chip.Chip.{Chip}
-use Rattle.access.specs.declared.ending.Ending.TheVariants.{Failed}
 use Rattle.access.specs.declared.need.Need.TheVariants as need
 use Rattle.access.specs.Endings.{done}
 use Rattle.access.specs.Program.{Program, finish}
@@ -75,7 +75,7 @@ module _ (chip : Chip) (address : ℕ) (ok : ltb 0x7f address ≡ false) (runs :
 
   -- the program of the runs js, and that it agrees from where they begin
   abbrev program : List Joined → ℕ → Program
-  program js n = runs_program chip (ours.ours chip) address js n (λ x. finish (Failed x)) (λ _. finish done)
+  program js n = runs_program chip (ours.ours chip) address js n (λ x. finish (Err x)) (λ _. finish done)
 
   abbrev Agrees : List Joined → ℕ → Type 0
   Agrees js n = (i w r : ℕ) (d : Progress) → Stands js i w r d → Agree (master shape) bytes n r (program js n) (resumes js d)
@@ -102,12 +102,12 @@ module _ (chip : Chip) (address : ℕ) (ok : ltb 0x7f address ≡ false) (runs :
   unfolding runs_program owed
   runs_agree [] n i w r d s = ends done (ap need.End s.ending)
   runs_agree (JW bs ∷ js) n i w r d s =
-      program_is (ap (λ f. ours.write_bytes chip address bs f n (λ x. finish (Failed x)) (λ _. program js n)) (frame_here (JW bs) js i w r d s))
+      program_is (ap (λ f. ours.write_bytes chip address bs f n (λ x. finish (Err x)) (λ _. program js n)) (frame_here (JW bs) js i w r d s))
       (write_bytes_agrees shape bytes ok n r _ bs (bytes_j js) w d (ap (λ x. begun x d) (this_run (JW bs) js i w r d s)) short s.left
       (λ v q _. subst (λ (x : ℕ). Agree (master shape) bytes n x (program js n) (continues (run_of shape d.run) (counted false 0 q (saves v d)))) (add-zero r)
       (behind_agrees (JW bs) js i w r d n false 0 v q s (runs_agree js n))))
   runs_agree (JR zero ∷ js) n i w r d s = absurd (omega (arith, s.filled.0))
   runs_agree (JR (suc m) ∷ js) n i w r d s =
-      program_is (ap (λ f. ours.blocking_read_iter chip address (suc m) f n (λ x. finish (Failed x)) (λ _. program js n)) (frame_here (JR (suc m)) js i w r d s))
+      program_is (ap (λ f. ours.blocking_read_iter chip address (suc m) f n (λ x. finish (Err x)) (λ _. program js n)) (frame_here (JR (suc m)) js i w r d s))
       (blocking_read_iter_agrees shape bytes ok n r _ m d (ap (λ x. begun x d) (this_run (JR (suc m)) js i w r d s)) (omega (arith, s.small))
       (λ v. behind_agrees (JR (suc m)) js i w r d n true 0 v (r + suc m) s (runs_agree js n)))

@@ -15,8 +15,7 @@ use Rattle.access.specs.declared.ending.Error.{Error}
 use Rattle.access.specs.declared.ending.Error.TheVariants.{Timeout, Arbitration}
 use Rattle.master.specs.declared.call.Frame.{Frame}
 use Rattle.master.specs.Rust.{Operation, Write, Read, is_read}
-use Rattle.access.specs.declared.ending.Ending.{Ending}
-use Rattle.access.specs.Endings.{failure_of, failed}
+use Rattle.access.specs.Endings.{Ending, failure_of, failed}
 use Rattle.access.specs.Program.{Access, Blocking, check_timeout}
 use Rattle.master.specs.Rust.{fail, generate_stop, finish_transfer, abort_transfer, validate_address, wait_stop_finished, launch_start, checked_add, validate_from, validate_operations, wait_flag, send_byte, start_and_address, write_bytes, recv_byte, wait_btf, recv_next, take_next, recv_all, recv_above_3, blocking_read_iter, blocking_read_timeout, blocking_write_read, write_group, transact, blocking_transaction}
 use Rattle.alike.specs.Like.{Alike}

@@ -1,12 +1,10 @@
 -- Which states fit what is lent: those whose stage, counts and ending a run of the call can have. The words last read may be any.
-use Rattle.std.specs.Prelude.{Bool, true, false, not, ◌&&◌, ◌||◌, ℕ, ◌+◌, eqb, leb, ltb}
+use Rattle.std.specs.Prelude.{Bool, true, false, not, ◌&&◌, ◌||◌, ℕ, ◌+◌, eqb, leb, ltb, Option, Some, None}
 use Rattle.std.specs.Bool.{beq}
 use Rattle.registers.specs.declared.chip.Chip.{Chip}
 use Rattle.access.specs.Endings.{is_done}
 use Rattle.errors.specs.Met.{has_failed}
 use Rattle.operations.specs.declared.search.Run.{Run}
-use Rattle.operations.specs.declared.search.FoundRun.{FoundRun}
-use Rattle.operations.specs.declared.search.FoundRun.TheVariants.{At, Nothing}
 use Rattle.operations.specs.Operations.{is_read}
 use Rattle.operations.specs.Runs.{run_at}
 use Rattle.master.specs.declared.call.Setting.{Setting}
@@ -179,9 +177,9 @@ fits_nothing (GenerateStop k st) d = false
 fits_nothing (Abort st) d = false
 fits_nothing Ended d = is_fresh d
 
-abbrev pub fits_found : Setting → FoundRun → Stage → Progress → Bool
-fits_found g (At r) st d = fits_at g r st d
-fits_found g Nothing st d = fits_nothing st d
+abbrev pub fits_found : Setting → Option Run → Stage → Progress → Bool
+fits_found g (Some r) st d = fits_at g r st d
+fits_found g None st d = fits_nothing st d
 
 unfoldable pub fits : Shape → Move → Bool
 fits sh m = fits_found sh.setting (run_at sh.runs m.progress.run) m.stage m.progress

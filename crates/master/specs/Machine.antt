@@ -1,5 +1,5 @@
 -- Layer 2: the master as a machine. A stage and the progress say which access is owed; an answer leads to the next.
-use Rattle.std.specs.Prelude.{Bool, true, false, cond, not, ◌&&◌, ◌||◌, List, ℕ, suc, pred, eqb, leb, ltb}
+use Rattle.std.specs.Prelude.{Bool, true, false, cond, not, ◌&&◌, ◌||◌, List, ℕ, suc, pred, eqb, leb, ltb, Option, Some, None, Err}
 use Rattle.registers.specs.declared.chip.Chip.{Chip}
 use Rattle.registers.specs.declared.register.Register.TheVariants.{Ctlr1, Ctlr2, Datar, Star1, Star2, Ckcfgr, Rtr}
 use Rattle.registers.specs.Bits.{PE, START, STOP, ACK, POS, SWRST, SB, ADDR, BTF, RXNE, TXE, MSL}
@@ -9,18 +9,14 @@ use Rattle.registers.specs.Flags.{error_flags, clear_error}
 use Rattle.registers.specs.Addresses.{address_word}
 use Rattle.access.specs.declared.ending.Failure.{Failure}
 use Rattle.access.specs.declared.ending.Error.TheVariants.{Arbitration, Timeout}
-use Rattle.access.specs.declared.ending.Ending.{Ending}
-use Rattle.access.specs.declared.ending.Ending.TheVariants.{Failed}
 use Rattle.access.specs.declared.need.Need.{Need}
 use Rattle.access.specs.declared.need.Need.TheVariants as need
-use Rattle.access.specs.Endings.{done, failure_of}
+use Rattle.access.specs.Endings.{Ending, done, failure_of}
 use Rattle.access.specs.Program.{late}
 use Rattle.access.specs.Machine.{Machine}
 use Rattle.errors.specs.Classes.{error_of, decided}
 use Rattle.operations.specs.declared.operation.Direction.TheVariants.{Write}
 use Rattle.operations.specs.declared.search.Run.{Run}
-use Rattle.operations.specs.declared.search.FoundRun.{FoundRun}
-use Rattle.operations.specs.declared.search.FoundRun.TheVariants.{At, Nothing}
 use Rattle.operations.specs.Operations.{is_read}
 use Rattle.operations.specs.Runs.{Span, run_at}
 use Rattle.master.specs.declared.call.Setting.{Setting}
@@ -93,7 +89,7 @@ fresh = record { reading = false; run = 0; left = 0; place = 0; word = 0; divide
 
 -- an error: the abort begins
 abbrev pub fails : Failure → Progress → Move
-fails x d = to (Abort abort.FinishRead) (ends_with (Failed x) d)
+fails x d = to (Abort abort.FinishRead) (ends_with (Err x) d)
 
 -- whether the flag that is waited for is set in the word that the error check read; RXNE is tested in another
 abbrev pub is_set : Flag → ℕ → Bool
@@ -363,18 +359,18 @@ pub record Shape : Type 0 where
 abbrev pub no_run : Run
 no_run = record { direction = Write; length = 0; before = 0; more = false }
 
-abbrev pub found_run : FoundRun → Run
-found_run (At r) = r
-found_run Nothing = no_run
+abbrev pub found_run : Option Run → Run
+found_run (Some r) = r
+found_run None = no_run
 
 -- the run of a number
 abbrev pub run_of : Shape → ℕ → Run
 run_of sh k = found_run (run_at sh.runs k)
 
 -- where a call begins; an empty list has ended
-abbrev pub start_with : Setting → FoundRun → Move
-start_with g (At r) = begins_at g r
-start_with g Nothing = to Ended fresh
+abbrev pub start_with : Setting → Option Run → Move
+start_with g (Some r) = begins_at g r
+start_with g None = to Ended fresh
 
 module _ (sh : Shape) where
   unfoldable pub owed : Move → Need

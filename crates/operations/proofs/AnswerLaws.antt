@@ -4,18 +4,18 @@ use Prim.Native.Nat.{ℕ}
 use mathlib.Core.Path.{◌≡◌, refl, sym, subst}
 use mathlib.Core.List.{List}
 use mathlib.Core.Option.{Option, none, some}
+use Rattle.std.specs.Prelude.{Result, Ok, Err}
+use Rattle.std.specs.Prelude as prelude
 use Rattle.access.specs.declared.ending.Error.{Error}
-use Rattle.operations.specs.declared.search.FoundRun.{FoundRun}
+use Rattle.operations.specs.declared.search.Run.{Run}
 use Rattle.operations.specs.declared.search.Sums.{Sums}
-use Rattle.operations.specs.declared.search.Searched.{Searched}
-use Rattle.operations.specs.declared.search.Searched.TheVariants.{Refused, Passed}
 use Rattle.operations.specs.Operations.{operations_of}
 use Rattle.operations.specs.Runs.{runs_of, sums_of, run_at}
 use Rattle.operations.specs.Search.{fault_from, verdict_at, validate_operations}
 
-abbrev Says : Searched → List ℕ → ℕ → Type 0
-Says (Refused e) l k = fault_from 0 l ≡ some e
-Says (Passed s f) l k = (fault_from 0 l ≡ none) × ((s ≡ sums_of (runs_of (operations_of l))) × (f ≡ run_at (runs_of (operations_of l)) k))
+abbrev Says : Result (Sums × prelude.Option Run) Error → List ℕ → ℕ → Type 0
+Says (Err e) l k = fault_from 0 l ≡ some e
+Says (Ok (s, f)) l k = (fault_from 0 l ≡ none) × ((s ≡ sums_of (runs_of (operations_of l))) × (f ≡ run_at (runs_of (operations_of l)) k))
 
 says : (l : List ℕ) (k : ℕ) → Says (validate_operations l k) l k
 unfolding validate_operations
@@ -25,9 +25,9 @@ says l k = go (fault_from 0 l) refl
     go none q = (q, (refl, refl))
     go (some e) q = q
 
-pub refused_is : (l : List ℕ) (k : ℕ) (e : Error) → Refused e ≡ validate_operations l k → fault_from 0 l ≡ some e
+pub refused_is : (l : List ℕ) (k : ℕ) (e : Error) → Err e ≡ validate_operations l k → fault_from 0 l ≡ some e
 refused_is l k e q = subst (λ x. Says x l k) (sym q) (says l k)
 
-pub passed_is : (l : List ℕ) (k : ℕ) (s : Sums) (f : FoundRun) → Passed s f ≡ validate_operations l k
+pub passed_is : (l : List ℕ) (k : ℕ) (s : Sums) (f : prelude.Option Run) → Ok (s, f) ≡ validate_operations l k
     → (fault_from 0 l ≡ none) × ((s ≡ sums_of (runs_of (operations_of l))) × (f ≡ run_at (runs_of (operations_of l)) k))
 passed_is l k s f q = subst (λ x. Says x l k) (sym q) (says l k)

@@ -6,26 +6,25 @@ use mathlib.Core.Bool.{Bool, true, false, cond, true≢false}
 use mathlib.Core.List.{List, [], ◌∷◌}
 use native.Mathlib.Omega.{arith}
 use lib.ListN.{length}
+use Rattle.std.specs.Prelude.{Option, Some, None}
 use Rattle.operations.specs.declared.operation.Direction.{Direction}
 use Rattle.operations.specs.declared.operation.Direction.TheVariants.{Write, Read}
 use Rattle.operations.specs.declared.search.Run.{Run}
-use Rattle.operations.specs.declared.search.FoundRun.{FoundRun}
-use Rattle.operations.specs.declared.search.FoundRun.TheVariants.{At, Nothing}
 use Rattle.operations.specs.Operations.{is_read}
 use Rattle.operations.specs.Runs.{Span, span, written_in, read_in, written_sum, read_sum, run_after, run_from}
 
-abbrev run_or : Run → FoundRun → Run
-run_or r (At x) = x
-run_or r Nothing = r
+abbrev run_or : Run → Option Run → Run
+run_or r (Some x) = x
+run_or r None = r
 
-pub same_run : {x y : Run} → At x ≡ At y → x ≡ y
+pub same_run : {x y : Run} → Some x ≡ Some y → x ≡ y
 same_run {x} e = ap (run_or x) e
 
-abbrev is_found : FoundRun → Bool
-is_found (At x) = true
-is_found Nothing = false
+abbrev is_found : Option Run → Bool
+is_found (Some x) = true
+is_found None = false
 
-pub not_found : {x : Run} → Nothing ≡ At x → ⊥
+pub not_found : {x : Run} → None ≡ Some x → ⊥
 not_found e = true≢false (sym (ap is_found e))
 
 -- no read run is empty
@@ -33,13 +32,13 @@ abbrev pub FilledRuns : List Span → Type 0
 FilledRuns [] = Unit {0}
 FilledRuns (s ∷ ss) = (is_read s.direction ≡ true → 0 < s.length) × FilledRuns ss
 
-pub found_filled : (ss : List Span) (w r k : ℕ) (x : Run) → FilledRuns ss → run_from w r ss k ≡ At x → is_read x.direction ≡ true → 0 < x.length
+pub found_filled : (ss : List Span) (w r k : ℕ) (x : Run) → FilledRuns ss → run_from w r ss k ≡ Some x → is_read x.direction ≡ true → 0 < x.length
 unfolding run_from
 found_filled [] w r k x f e = absurd (not_found e)
 found_filled (s ∷ ss) w r zero x f e = subst (λ (y : Run). is_read y.direction ≡ true → 0 < y.length) (same_run e) f.0
 found_filled (s ∷ ss) w r (suc k) x f e = found_filled ss (w + written_in s) (r + read_in s) k x f.1 e
 
-pub found_small : (ss : List Span) (w r k : ℕ) (x : Run) → run_from w r ss k ≡ At x → x.before + x.length ≤ w + written_sum ss + (r + read_sum ss)
+pub found_small : (ss : List Span) (w r k : ℕ) (x : Run) → run_from w r ss k ≡ Some x → x.before + x.length ≤ w + written_sum ss + (r + read_sum ss)
 unfolding run_from
 found_small [] w r k x e = absurd (not_found e)
 found_small (s ∷ ss) w r zero x e =
@@ -50,13 +49,13 @@ found_small (s ∷ ss) w r zero x e =
     go Read = omega arith
 found_small (s ∷ ss) w r (suc k) x e = omega (arith, found_small ss (w + written_in s) (r + read_in s) k x e)
 
-pub found_below : (ss : List Span) (w r k : ℕ) (x : Run) → run_from w r ss k ≡ At x → k < length ss
+pub found_below : (ss : List Span) (w r k : ℕ) (x : Run) → run_from w r ss k ≡ Some x → k < length ss
 unfolding run_from
 found_below [] w r k x e = absurd (not_found e)
 found_below (s ∷ ss) w r zero x e = omega arith
 found_below (s ∷ ss) w r (suc k) x e = omega (arith, found_below ss (w + written_in s) (r + read_in s) k x e)
 
-pub found_next : (ss : List Span) (w r k : ℕ) (x : Run) → run_from w r ss k ≡ At x → x.more ≡ true → (t : Run) × (run_from w r ss (suc k) ≡ At t)
+pub found_next : (ss : List Span) (w r k : ℕ) (x : Run) → run_from w r ss k ≡ Some x → x.more ≡ true → (t : Run) × (run_from w r ss (suc k) ≡ Some t)
 unfolding run_from
 found_next [] w r k x e m = absurd (not_found e)
 found_next (s ∷ []) w r zero x e m = absurd (true≢false (sym (ap (λ (y : Run). y.more) (same_run e) ∙ m)))

@@ -11,11 +11,11 @@ use native.Mathlib.Omega.{arith}
 use borrow.Author.Tests.{le-leb, lt-leb}
 use lib.Dec.{leb}
 use lib.ListN.{length, get_or, drop}
+use Rattle.std.specs.Prelude.{Ok, Err}
 use Rattle.access.specs.declared.ending.Error.{Error}
 use Rattle.operations.specs.declared.operation.Direction.{Direction}
 use Rattle.operations.specs.declared.operation.Direction.TheVariants.{Write, Read}
 use Rattle.operations.specs.declared.operation.Operation.{Operation}
-use Rattle.operations.specs.declared.search.Searched.TheVariants.{Refused, Passed}
 use Rattle.operations.specs.declared.search.Tally.{Tally}
 use Rattle.operations.specs.Operations.{direction_of, empty_read, operation_at, operations_of}
 use Rattle.operations.specs.Runs.{span, written_in, read_in, runs_from, runs_of, is_empty, sums_of, run_at}
@@ -55,19 +55,19 @@ at_start l k = record { within = omega arith; small = omega arith; sums = refl; 
 
 -- at the list's end
 pub at_end : (l : List ℕ) (k at total : ℕ) (tally : Tally) → Between l k at total tally → length l ≤ at
-    → Passed (record { written = tally.written; read = tally.read }) tally.found ≡ validate_operations l k
+    → Ok (record { written = tally.written; read = tally.read }, tally.found) ≡ validate_operations l k
 unfolding validate_operations passed_all runs_of operations_of
 at_end l k at total tally b h =
     let clear : fault_from total (drop at l) ≡ none = no_fault l at total h in
     let none_left : operations_of (drop at l) ≡ [] = no_operation l at (omega arith) in
     let t : tally ≡ whole_tally l k = ap (λ os. passed_all tally (runs_of os)) (sym none_left) ∙ b.runs clear in
-    ap (λ (t : Tally). Passed (record { written = t.written; read = t.read }) t.found) t
-    ∙ (λ i. Passed (record { written = all_written (none_passed k) (runs_of (operations_of l)) i; read = all_read (none_passed k) (runs_of (operations_of l)) i }) (all_found k (runs_of (operations_of l)) i))
-    ∙ (λ i. Passed (record { written = zero-add (sums_of (runs_of (operations_of l))).written i; read = zero-add (sums_of (runs_of (operations_of l))).read i }) (run_at (runs_of (operations_of l)) k))
+    ap (λ (t : Tally). Ok (record { written = t.written; read = t.read }, t.found)) t
+    ∙ (λ i. Ok (record { written = all_written (none_passed k) (runs_of (operations_of l)) i; read = all_read (none_passed k) (runs_of (operations_of l)) i }, (all_found k (runs_of (operations_of l)) i)))
+    ∙ (λ i. Ok (record { written = zero-add (sums_of (runs_of (operations_of l))).written i; read = zero-add (sums_of (runs_of (operations_of l))).read i }, (run_at (runs_of (operations_of l)) k)))
     ∙ ap (λ o. verdict_at o l k) (sym clear ∙ b.fault)
 
 -- a fault
-pub at_fault : (l : List ℕ) (k t at : ℕ) (e : Error) → fault_from t (drop at l) ≡ fault_from 0 l → fault_from t (drop at l) ≡ some e → Refused e ≡ validate_operations l k
+pub at_fault : (l : List ℕ) (k t at : ℕ) (e : Error) → fault_from t (drop at l) ≡ fault_from 0 l → fault_from t (drop at l) ≡ some e → Err e ≡ validate_operations l k
 unfolding validate_operations
 at_fault l k t at e p q = ap (λ o. verdict_at o l k) (sym q ∙ p)
 

@@ -1,11 +1,9 @@
 -- Document 01's run: a longest stretch of one direction.
-use Rattle.std.specs.Prelude.{ℕ, zero, suc, ◌+◌, Bool, true, false, cond, not, List, [], ◌∷◌}
+use Rattle.std.specs.Prelude.{ℕ, zero, suc, ◌+◌, Bool, true, false, cond, not, List, [], ◌∷◌, Option, Some, None}
 use Rattle.operations.specs.declared.operation.Direction.{Direction}
 use Rattle.operations.specs.declared.operation.Direction.TheVariants.{Write, Read}
 use Rattle.operations.specs.declared.operation.Operation.{Operation}
 use Rattle.operations.specs.declared.search.Run.{Run}
-use Rattle.operations.specs.declared.search.FoundRun.{FoundRun}
-use Rattle.operations.specs.declared.search.FoundRun.TheVariants.{At, Nothing}
 use Rattle.operations.specs.declared.search.Sums.{Sums}
 use Rattle.operations.specs.Operations.{is_read}
 
@@ -61,10 +59,10 @@ abbrev pub run_after : ℕ → ℕ → Span → List Span → Run
 run_after w r s rest = record { direction = s.direction; length = s.length; before = cond (is_read s.direction) r w; more = not (is_empty rest) }
 
 -- the run of number k, where w bytes are written and r are read before the first of these
-unfoldable pub run_from : ℕ → ℕ → List Span → ℕ → FoundRun
-run_from w r [] k = Nothing
-run_from w r (s ∷ ss) zero = At (run_after w r s ss)
+unfoldable pub run_from : ℕ → ℕ → List Span → ℕ → Option Run
+run_from w r [] k = None
+run_from w r (s ∷ ss) zero = Some (run_after w r s ss)
 run_from w r (s ∷ ss) (suc k) = run_from (w + written_in s) (r + read_in s) ss k
 
-abbrev pub run_at : List Span → ℕ → FoundRun
+abbrev pub run_at : List Span → ℕ → Option Run
 run_at ss k = run_from 0 0 ss k

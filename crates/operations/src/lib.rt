@@ -7,4 +7,4 @@ pub mod search;
 pub mod shape;
 
 pub use operation::{Direction, Operation};
-pub use search::{FoundRun, Run, Searched, Sums};
+pub use search::{Run, Sums};

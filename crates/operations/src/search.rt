@@ -1,5 +1,5 @@
 // One search over the runs of a list and their operations: the first fault, or the sums and the run that is asked for.
-ghost use Rattle.std.specs.Prelude.{◌≡◌, ◌+◌, ◌≤◌, pred, length};
+ghost use Rattle.std.specs.Prelude.{◌≡◌, ◌+◌, ◌≤◌, length};
 ghost use Rattle.operations.specs.Runs.{span};
 ghost use Rattle.operations.specs.Tally.{found_with, passed};
 ghost use Rattle.operations.specs.Search.{goes_on, validate_operations};
@@ -17,23 +17,11 @@ pub struct Run {
     pub more: bool,
 }
 
-#[derive(Clone, Copy)]
-pub enum FoundRun {
-    At(Run),
-    Nothing,
-}
-
 // The bytes that a list writes and reads.
 #[derive(Clone, Copy)]
 pub struct Sums {
     pub written: u16,
     pub read: u16,
-}
-
-#[derive(Clone, Copy)]
-pub enum Searched {
-    Refused(Error),
-    Passed(Sums, FoundRun),
 }
 
 // What the runs passed so far come to. `ahead` counts down to 0, which it reaches with the run that is asked for.
@@ -42,31 +30,25 @@ pub struct Tally {
     pub written: u16,
     pub read: u16,
     pub ahead: u32,
-    pub found: FoundRun,
-}
-
-fn one_less(n: u32) -> u32
-    ensures { result ≡ pred n }
-{
-    if 0 < n { n - 1 } else { 0 }
+    pub found: Option<Run>,
 }
 
 // The run that is asked for, if it is this one or was found before.
-fn found_with(tally: Tally, direction: Direction, length: u16, more: bool) -> FoundRun
+fn found_with(tally: Tally, direction: Direction, length: u16, more: bool) -> Option<Run>
     ensures { result ≡ found_with tally (span direction length) more }
 {
-    let found = tally.found;
     if tally.ahead != 1 {
-        return found;
+        return tally.found;
     }
-    FoundRun::At(Run {
+    let before = if operation::is_read(direction) {
+        tally.read
+    } else {
+        tally.written
+    };
+    Some(Run {
         direction,
         length,
-        before: if operation::is_read(direction) {
-            tally.read
-        } else {
-            tally.written
-        },
+        before,
         more,
     })
 }
@@ -76,21 +58,22 @@ fn passed(tally: Tally, direction: Direction, length: u16, more: bool) -> Tally
     requires { tally.written + tally.read + length ≤ 65535 }
     ensures { result ≡ passed tally (span direction length) more }
 {
-    let ahead = one_less(tally.ahead);
+    let ahead = tally.ahead.saturating_sub(1);
     let found = found_with(tally, direction, length, more);
+    let passed = Tally {
+        ahead,
+        found,
+        ..tally
+    };
     if operation::is_read(direction) {
         Tally {
-            written: tally.written,
             read: tally.read + length,
-            ahead,
-            found,
+            ..passed
         }
     } else {
         Tally {
             written: tally.written + length,
-            read: tally.read,
-            ahead,
-            found,
+            ..passed
         }
     }
 }
@@ -101,13 +84,12 @@ pub fn goes_on(list: &[u8], at: usize, direction: Direction) -> bool
     ensures { result ≡ goes_on list.now at direction }
 {
     let next = operation::operation_at(list, at);
-    let turned = next.direction;
-    (list[at] <= 1) & operation::is_same(direction, turned)
+    (list[at] <= 1) & (direction == next.direction)
 }
 
 // The Rust's `validate_operations`, left from inside at the first fault: an operation that is none (16), an empty read (6),
 // or a total above 65,535 (8). A list without a fault has its sums, and the run of a number.
-pub fn validate_operations(list: &[u8], number: u16) -> Searched
+pub fn validate_operations(list: &[u8], number: u16) -> Result<(Sums, Option<Run>), Error>
     ensures { result ≡ validate_operations list.now number }
 {
     let mut at: usize = 0;
@@ -116,35 +98,35 @@ pub fn validate_operations(list: &[u8], number: u16) -> Searched
         written: 0,
         read: 0,
         ahead: number as u32 + 1,
-        found: FoundRun::Nothing,
+        found: None,
     };
     'runs: loop {
         if list.len() <= at {
             let found = tally.found;
-            break 'runs Searched::Passed(
+            break 'runs Ok((
                 Sums {
                     written: tally.written,
                     read: tally.read,
                 },
                 found,
-            );
+            ));
         }
         if list.len() - at < 3 {
-            break 'runs Searched::Refused(Error::InvalidArgument);
+            break 'runs Err(Error::InvalidArgument);
         }
         let direction = list[at];
         if 1 < direction {
-            break 'runs Searched::Refused(Error::InvalidArgument);
+            break 'runs Err(Error::InvalidArgument);
         }
         let start = total;
         loop {
             let operation = operation::operation_at(list, at);
             if operation::is_empty_read(operation) {
-                break 'runs Searched::Refused(Error::Overrun);
+                break 'runs Err(Error::Overrun);
             }
             total += operation.length as u32;
             if 65535 < total {
-                break 'runs Searched::Refused(Error::BufferTooLong);
+                break 'runs Err(Error::BufferTooLong);
             }
             at += 3;
             if list.len() - at < 3 {
@@ -157,7 +139,7 @@ pub fn validate_operations(list: &[u8], number: u16) -> Searched
         }
         tally = passed(
             tally,
-            operation::direction_of(direction),
+            Direction::from(direction),
             (total - start) as u16,
             3 <= list.len() - at,
         );

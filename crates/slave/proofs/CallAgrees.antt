@@ -9,6 +9,7 @@ use native.Mathlib.Omega.{arith}
 use borrow.Author.Tests.{le-ltb}
 use lib.Dec.{ltb}
 use lib.ListN.{length}
+use Rattle.std.specs.Prelude.{Option, Some, None, Err}
 use Rattle.registers.specs.declared.chip.Chip.{Chip}
 use Rattle.registers.specs.declared.register.Register.TheVariants.{Oaddr1, Oaddr2}
 use Rattle.registers.specs.Bits.{ENDUAL}
@@ -16,7 +17,6 @@ use Rattle.registers.proofs.WordLaws.{cleared_none}
 use Rattle.registers.proofs.AddressLaws.{seven_fields, ten_fields, second_fields}
 use Rattle.access.specs.declared.ending.Error.TheVariants.{InvalidAddress, BufferTooLong, ReservedAddress}
 use Rattle.access.specs.declared.ending.Failure.{Failure}
-use Rattle.access.specs.declared.ending.Ending.TheVariants.{Failed}
 use Rattle.access.specs.declared.need.Need.TheVariants as need
 use Rattle.access.specs.Endings.{done, failure_of}
 use Rattle.access.specs.Program.{Program, finish}
@@ -25,8 +25,6 @@ use Rattle.access.specs.Machine.{shown_from}
 use Rattle.access.proofs.Agreement.{Agree, ends, reads, writes}
 use Rattle.slave.specs.declared.config.SlaveAddress.{SlaveAddress}
 use Rattle.slave.specs.declared.config.SlaveAddress.TheVariants.{SevenBit, TenBit}
-use Rattle.slave.specs.declared.config.SecondAddress.{SecondAddress}
-use Rattle.slave.specs.declared.config.SecondAddress.TheVariants.{Nothing, At}
 use Rattle.slave.specs.declared.config.SlaveConfig.{SlaveConfig}
 use Rattle.slave.specs.declared.state.Kind.{Kind}
 use Rattle.slave.specs.declared.state.Kind.TheVariants.{Listen, RespondToWrite, RespondToRead}
@@ -50,11 +48,11 @@ module _ (c : SlaveConfig) (n : ℕ) (h : Failure → Program) (k : Unit {0} →
   own_is (SevenBit a) general m = refl
   own_is (TenBit a) general m = refl
 
-  second_is : (own : SlaveAddress) (second : SecondAddress) → rust.validate_second own second n h k ≡ cond (second_fault own second) (h (failure_of InvalidAddress)) (k tt)
-  second_is (SevenBit a) Nothing = refl
-  second_is (TenBit a) Nothing = refl
-  second_is (SevenBit a) (At b) = ap (λ (x : Bool). cond x (h (failure_of InvalidAddress)) (k tt)) (or-false (ltb 127 b))
-  second_is (TenBit a) (At b) = ap (λ (x : Bool). cond x (h (failure_of InvalidAddress)) (k tt)) (or-true (ltb 127 b))
+  second_is : (own : SlaveAddress) (second : Option ℕ) → rust.validate_second own second n h k ≡ cond (second_fault own second) (h (failure_of InvalidAddress)) (k tt)
+  second_is (SevenBit a) None = refl
+  second_is (TenBit a) None = refl
+  second_is (SevenBit a) (Some b) = ap (λ (x : Bool). cond x (h (failure_of InvalidAddress)) (k tt)) (or-false (ltb 127 b))
+  second_is (TenBit a) (Some b) = ap (λ (x : Bool). cond x (h (failure_of InvalidAddress)) (k tt)) (or-true (ltb 127 b))
 
   pub validate_agrees : rust.validate c n h k ≡ cond (config_fault c) (h (failure_of InvalidAddress)) (k tt)
   unfolding rust.validate config_fault
@@ -67,9 +65,9 @@ own_word_is : (a : SlaveAddress) → rust.own_word a ≡ own_word_of a
 own_word_is (SevenBit a) = seven_fields a
 own_word_is (TenBit a) = ten_fields a
 
-second_word_is : (s : SecondAddress) → rust.second_word s ≡ second_word_of s
-second_word_is Nothing = cleared_none ENDUAL
-second_word_is (At a) = second_fields a
+second_word_is : (s : Option ℕ) → rust.second_word s ≡ second_word_of s
+second_word_is None = cleared_none ENDUAL
+second_word_is (Some a) = second_fields a
 
 pub init_slave_agrees : (c : SlaveConfig) (n at : ℕ) (h : Failure → Program) → Agree init_machine [] n at (rust.init_slave c n h (λ _. finish done)) (started c)
 unfolding rust.init_slave owed advance
@@ -84,12 +82,12 @@ rust_is : (c : SlaveConfig) (turns : ℕ) (answers : List ℕ) → length answer
     → rust_init turns c answers ≡ seen_after (cond (config_fault c) (some InvalidAddress) none) (shown_from init_machine [] (started c) answers)
 unfolding rust_init rust.into_slave
 rust_is c turns answers q =
-    ap (λ (p : Program). shown_of 0 p answers) (validate_agrees c turns (λ f. finish (Failed f)) (λ _. rust.init_slave c turns (λ f. finish (Failed f)) (λ _. finish done))) ∙ go (config_fault c)
+    ap (λ (p : Program). shown_of 0 p answers) (validate_agrees c turns (λ f. finish (Err f)) (λ _. rust.init_slave c turns (λ f. finish (Err f)) (λ _. finish done))) ∙ go (config_fault c)
   where
-    go : (b : Bool) → shown_of 0 (cond b (finish (Failed (failure_of InvalidAddress))) (rust.init_slave c turns (λ f. finish (Failed f)) (λ _. finish done))) answers
+    go : (b : Bool) → shown_of 0 (cond b (finish (Err (failure_of InvalidAddress))) (rust.init_slave c turns (λ f. finish (Err f)) (λ _. finish done))) answers
         ≡ seen_after (cond b (some InvalidAddress) none) (shown_from init_machine [] (started c) answers)
     go true = refl
-    go false = sym ((init_slave_agrees c turns 0 (λ f. finish (Failed f))).same answers q)
+    go false = sym ((init_slave_agrees c turns 0 (λ f. finish (Err f))).same answers q)
 
 init_same : (c : SlaveConfig) → config_reserved c ≡ false → (turns : ℕ) (answers : List ℕ) → length answers < turns → init_shown c answers ≡ rust_init turns c answers
 unfolding init_shown

@@ -1,5 +1,6 @@
 -- The starred edges, the reserved addresses, and calls of which secrecy speaks, by computation.
 -- Assumes nothing.
+use Rattle.std.specs.Prelude.{Err}
 use mathlib.Core.Path.{◌≡◌, refl}
 use mathlib.Core.Bool.{false}
 use mathlib.Core.List.{List, [], ◌∷◌}
@@ -11,7 +12,6 @@ use Rattle.registers.specs.declared.chip.Chip.{Chip}
 use Rattle.registers.specs.Word.{has_bit, field_of}
 use Rattle.registers.specs.Flags.{error_flags}
 use Rattle.registers.specs.Addresses.{own_ten}
-use Rattle.access.specs.declared.ending.Ending.TheVariants.{Failed}
 use Rattle.access.specs.declared.ending.Error.TheVariants.{Overrun, Timeout}
 use Rattle.access.specs.Endings.{flagged, failed, returned, returned_both}
 use Rattle.access.specs.Program.{late}
@@ -115,7 +115,7 @@ stop_finds_it = refl
 
 -- ---- a slave's error says AF among its flags, which decides nothing
 
-overrun_ends : (slave_shown plain RespondToWrite two (0x0c00 ∷ 0 ∷ 0 ∷ 0 ∷ 0 ∷ [])).end ≡ some (Failed (flagged Overrun 0x0c00))
+overrun_ends : (slave_shown plain RespondToWrite two (0x0c00 ∷ 0 ∷ 0 ∷ 0 ∷ 0 ∷ [])).end ≡ some (Err (flagged Overrun 0x0c00))
 unfolding slave_shown owed advance has_bit error_flags error_of
 overrun_ends = refl
 

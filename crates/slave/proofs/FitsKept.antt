@@ -6,6 +6,7 @@ use Prim.Native.Nat.{ℕ, suc, pred, ◌+◌, ◌*◌, ◌≤◌, ◌<◌}
 use native.Mathlib.Omega.{arith}
 use borrow.Author.Tests.{lt-ltb, le-leb, leb-true, ltb-true}
 use lib.Dec.{eqb, leb, ltb}
+use Rattle.std.specs.Prelude.{Option, Some, None}
 use Rattle.registers.specs.declared.chip.Chip.{Chip}
 use Rattle.registers.specs.Bits.{ADDMODE, ADDR, STOPF, RXNE, TXE, AF, MSL, BUSY, GENCALL, DUALF}
 use Rattle.registers.specs.Fields.{ADD9_0, ADD7_1, ADD2}
@@ -18,8 +19,6 @@ use Rattle.access.specs.Endings.{failure_of, is_done}
 use Rattle.access.specs.Program.{late}
 use Rattle.access.proofs.Choice.{chosen, both_true, first_true, second_true, either_true, other_true}
 use Rattle.access.proofs.Compared.{itself}
-use Rattle.errors.specs.declared.Checked.{Checked}
-use Rattle.errors.specs.declared.Checked.TheVariants as checked
 use Rattle.errors.specs.Classes.{error_of, decided}
 use Rattle.errors.specs.Met.{is_met, has_failed}
 use Rattle.errors.proofs.MetLaws.{found_met, unchecked_met}
@@ -113,10 +112,10 @@ module _ (chip : Chip) (size : ℕ) where
     errors_fit : (a : ℕ) → runs (G x) true d ≡ true → Fit x (slave_handle_errors d a)
     errors_fit a e = chosen (Fit x) (not (eqb (error_flags a) 0)) (λ _. at x (Errors errors.Clear) (saves a d) e) (λ _. at x (Errors errors.Clock) d e)
 
-    judged_fits : (c : Checked) → decided c (λ f. is_met chip false f ≡ true) (Unit {0}) → runs (G x) true d ≡ true
+    judged_fits : (c : Option Failure) → decided c (λ f. is_met chip false f ≡ true) (Unit {0}) → runs (G x) true d ≡ true
         → Fit x (decided c (λ f. fails f d) (to (Errors errors.Clock) d))
-    judged_fits (checked.Failed y) m e = fails_fits y (open_counts true e) m
-    judged_fits checked.Fine m e = at x (Errors errors.Clock) d e
+    judged_fits (Some y) m e = fails_fits y (open_counts true e) m
+    judged_fits None m e = at x (Errors errors.Clock) d e
 
   -- a turn, by its status word
   polls_fit : (x : Kind) (d : Progress) (a : ℕ) → runs (G x) true d ≡ true → Fit x (polls x size d a)

@@ -1,5 +1,6 @@
 -- Ours is the Rust: our error check is alike the Rust's, and so is all of the text.
 -- Assumes nothing.
+use Rattle.std.specs.Prelude.{Err}
 use mathlib.Core.Path.{◌≡◌, refl, sym, ap, subst, ◌∙◌}
 use mathlib.Core.List.{List}
 use mathlib.Core.Bool.{Bool, true, false, not}
@@ -8,10 +9,8 @@ use lib.Dec.{eqb}
 use Rattle.registers.specs.declared.chip.Chip.{Chip}
 use Rattle.registers.specs.declared.register.Register.TheVariants.{Star1}
 use Rattle.registers.specs.Flags.{error_flags}
-use Rattle.access.specs.declared.ending.Ending.{Ending}
-use Rattle.access.specs.declared.ending.Ending.TheVariants.{Failed}
 use Rattle.access.specs.declared.ending.Error.{Error}
-use Rattle.access.specs.Endings.{failed, returned, returned_both}
+use Rattle.access.specs.Endings.{Ending, failed, returned, returned_both}
 use Rattle.access.specs.Program.{Access, read, finish, Blocking}
 use Rattle.alike.specs.Like.{forgetting, any_answer, Like, Alike}
 use Rattle.alike.proofs.LikeLaws.{accesses, cases, calls, always, nothing_forgotten, forget_alike}
@@ -53,7 +52,7 @@ module _ (chip : Chip) where
       → program_with check our.Counts (our.counts chip) (λ c. returned (status_number c.status)) turns chip x l ≡ rust_program_with check turns chip x l
   counted_once check turns Listen l = refl
   counted_once check turns RespondToWrite l = refl
-  counted_once check turns RespondToRead l = counts_as_the_rust chip check l.reply turns (λ f. finish (Failed f)) (λ s. finish (returned (status_number s)))
+  counted_once check turns RespondToRead l = counts_as_the_rust chip check l.reply turns (λ f. finish (Err f)) (λ s. finish (returned (status_number s)))
 
   -- ours with one check is like the Rust's with another
   rust_like : (forget : Ending → Ending) → Plain forget → (check check' : ℕ → Blocking (Unit {0})) → ((status : ℕ) → Alike forget any_answer (check status) (check' status)) → (turns : ℕ) (x : Kind) (l : SlaveLent)

@@ -1,25 +1,25 @@
 -- The slave is secret. Receives of one length go through the same states. Replies of any lengths go through states that differ
 -- in counts and ends alone, and neither shows in a struck record.
 -- Assumes nothing.
+use Rattle.access.specs.Endings.{Ending}
 use mathlib.Core.Path.{◌≡◌, refl, sym, ap, ◌∙◌, subst}
 use mathlib.Core.Bool.{Bool, true, false, cond, not, ◌&&◌}
 use mathlib.Core.List.{List, []}
 use Prim.Native.Nat.{ℕ, ◌≤◌}
 use lib.Dec.{eqb, ltb}
 use lib.ListN.{length, take}
+use Rattle.std.specs.Prelude.{Option, Some, None}
 use Rattle.registers.specs.declared.chip.Chip.{Chip}
 use Rattle.registers.specs.declared.register.Register.TheVariants.{Ctlr1, Ctlr2, Oaddr1, Oaddr2, Star1, Star2}
 use Rattle.registers.specs.Bits.{ADDR, STOPF, TXE, AF, MSL, BUSY, GENCALL, DUALF}
 use Rattle.registers.specs.Word.{has_bit}
 use Rattle.registers.specs.Flags.{error_flags}
-use Rattle.access.specs.declared.ending.Ending.{Ending}
+use Rattle.access.specs.declared.ending.Failure.{Failure}
 use Rattle.access.specs.declared.need.Need.TheVariants as need
 use Rattle.access.specs.Program.{late}
 use Rattle.access.specs.Record.{Shown, EqualUnless, DifferInPayload, Same, SameStruck}
 use Rattle.access.specs.Machine.{shown_from}
 use Rattle.access.proofs.Secrecy.{Blind, payload_need, SameNeed, reads, writes, clocks, sends, keeps, keeps_drops, drops_keeps, drops, ends, Kept, blind_kept, secrecy, same_payload, same_answers}
-use Rattle.errors.specs.declared.Checked.{Checked}
-use Rattle.errors.specs.declared.Checked.TheVariants as checked
 use Rattle.errors.specs.Classes.{error_of, decided}
 use Rattle.slave.specs.declared.stage.StopfFor.TheVariants as stopf
 use Rattle.slave.specs.declared.stage.StopfStage.TheVariants as clearing
@@ -123,11 +123,11 @@ module _ (chip : Chip) (m n : ℕ) where
   needs_at Ended w c₁ c₂ e₁ e₂ = ends tt
 
   -- the first error decides
-  judged : (c : Checked) (w c₁ c₂ : ℕ) (e₁ e₂ : Ending)
+  judged : (c : Option Failure) (w c₁ c₂ : ℕ) (e₁ e₂ : Ending)
       → SamePoint (decided c (λ f. fails f (record { count = c₁; word = w; ending = e₁ })) (to (Errors errors.Clock) (record { count = c₁; word = w; ending = e₁ })))
       (decided c (λ f. fails f (record { count = c₂; word = w; ending = e₂ })) (to (Errors errors.Clock) (record { count = c₂; word = w; ending = e₂ })))
-  judged (checked.Failed f) w c₁ c₂ e₁ e₂ = same _ w c₁ c₂ _ _
-  judged checked.Fine w c₁ c₂ e₁ e₂ = same _ w c₁ c₂ e₁ e₂
+  judged (Some f) w c₁ c₂ e₁ e₂ = same _ w c₁ c₂ _ _
+  judged None w c₁ c₂ e₁ e₂ = same _ w c₁ c₂ e₁ e₂
 
   moves_at : (st : Stage) (w c₁ c₂ : ℕ) (e₁ e₂ : Ending) (a : ℕ)
       → SamePoint (advance_at (reply m) st (record { count = c₁; word = w; ending = e₁ }) a) (advance_at (reply n) st (record { count = c₂; word = w; ending = e₂ }) a)

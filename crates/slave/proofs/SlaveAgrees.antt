@@ -7,6 +7,7 @@ use Prim.Native.Nat.{ℕ, zero, suc}
 use borrow.Author.Tests.{eqb-true, not-false}
 use lib.Dec.{eqb, ltb}
 use lib.ListN.{length, get_or}
+use Rattle.std.specs.Prelude.{Option, Some, None, Err}
 use Rattle.registers.specs.declared.register.Register.TheVariants.{Ctlr1, Ctlr2, Datar, Star1, Star2}
 use Rattle.registers.specs.Bits.{ACK, ITBUFEN, ADDMODE, ADDR, STOPF, RXNE, TXE, AF, MSL, BUSY, GENCALL, DUALF}
 use Rattle.registers.specs.Fields.{ADD9_0, ADD7_1, ADD2, DATA}
@@ -16,14 +17,11 @@ use Rattle.registers.proofs.TransferLaws.{slave_transfer_off}
 use Rattle.registers.proofs.AddressLaws.{ten_read}
 use Rattle.access.specs.declared.ending.Error.TheVariants.{Timeout}
 use Rattle.access.specs.declared.ending.Failure.{Failure}
-use Rattle.access.specs.declared.ending.Ending.TheVariants.{Failed}
 use Rattle.access.specs.declared.need.Need.TheVariants as need
 use Rattle.access.specs.Endings.{returned, failure_of}
 use Rattle.access.specs.Program.{Program, finish, access, keep, read, write, send, clock, spin_from, late, check_timeout}
 use Rattle.access.proofs.EndingLaws.{both_same}
 use Rattle.access.proofs.Agreement.{Agree, no_answers, ends, reads_first, reads, writes, asks, sends, drops, keeps, cases, cases_with, along, program_is}
-use Rattle.errors.specs.declared.Checked.{Checked}
-use Rattle.errors.specs.declared.Checked.TheVariants as checked
 use Rattle.errors.specs.Classes.{error_of, decided}
 use Rattle.errors.specs.Check.{check_errors}
 use Rattle.errors.proofs.ClassLaws.{no_flags}
@@ -56,7 +54,7 @@ module _ (g : Setting) (bytes : List ℕ) where
 
   -- what follows an error once the abort is done
   abbrev last : Failure → Program
-  last x = finish (Failed x)
+  last x = finish (Err x)
 
   -- and what follows it at once: the abort
   abbrev aborts : ℕ → Failure → Program
@@ -66,8 +64,8 @@ module _ (g : Setting) (bytes : List ℕ) where
   unfolding rust.abort_slave_transfer rust.disable_slave_transfers owed advance
   abort_slave_transfer_agrees m n at x d =
       reads refl (λ a. writes (ap (need.Write Ctlr2) (sym (slave_transfer_off a))) (λ _. reads refl (λ b. cases (has_bit BUSY b && not (has_bit MSL b))
-      (reads refl (λ w. writes refl (λ _. ends (Failed x) refl)))
-      (ends (Failed x) refl))))
+      (reads refl (λ w. writes refl (λ _. ends (Err x) refl)))
+      (ends (Err x) refl))))
 
   -- where clearing STOPF leads
   abbrev behind : StopfFor → Progress → Move
@@ -86,10 +84,10 @@ module _ (g : Setting) (bytes : List ℕ) where
 
   -- ---- errors and the clock, at the end of a turn
 
-  judged_agrees : (m n at : ℕ) (c : Checked) (p : Program) (d : Progress) (t : Move) → Ag m at p t
+  judged_agrees : (m n at : ℕ) (c : Option Failure) (p : Program) (d : Progress) (t : Move) → Ag m at p t
       → Ag m at (decided c (aborts n) p) (decided c (λ x. fails x d) t)
-  judged_agrees m n at (checked.Failed x) p d t K = abort_slave_transfer_agrees m n at x d
-  judged_agrees m n at checked.Fine p d t K = K
+  judged_agrees m n at (Some x) p d t K = abort_slave_transfer_agrees m n at x d
+  judged_agrees m n at None p d t K = K
 
   abbrev asking : ℕ → Program → Program
   asking n again = access clock (λ t. cond (late t) (aborts n (failure_of Timeout)) again)

@@ -14,8 +14,7 @@ use Rattle.registers.specs.Word.{has_bit, field_of}
 use Rattle.registers.specs.Flags.{error_flags}
 use Rattle.access.specs.declared.ending.Error.{Error}
 use Rattle.access.specs.declared.ending.Error.TheVariants.{Timeout}
-use Rattle.access.specs.declared.ending.Ending.{Ending}
-use Rattle.access.specs.Endings.{failed}
+use Rattle.access.specs.Endings.{Ending, failed}
 use Rattle.access.specs.Program.{Access, read, Blocking, continue, return}
 use Rattle.alike.specs.Like.{Alike}
 use Rattle.alike.proofs.LikeLaws.{pure_alike, ◌>>=-alike◌, ◌>>-alike◌, read_alike, read_then, write_alike, modify_alike, send_alike, store_alike, if_alike, only_alike, drop_alike, loop_alike, timeout_alike}

@@ -2,10 +2,9 @@
 use Rattle.std.specs.Prelude.{false, cond, List, [], ℕ, ◌≤◌, ltb, length}
 use Rattle.std.proofs.Math.Option.{Option, none, some}
 use Rattle.registers.specs.declared.chip.Chip.{Chip}
-use Rattle.access.specs.declared.ending.Ending.{Ending}
 use Rattle.access.specs.declared.ending.Error.{Error}
 use Rattle.access.specs.declared.ending.Error.TheVariants.{BufferTooLong}
-use Rattle.access.specs.Endings.{done, returned, returned_both, failed}
+use Rattle.access.specs.Endings.{Ending, done, returned, returned_both, failed}
 use Rattle.access.specs.Program.{Program, Blocking, call_of}
 use Rattle.access.specs.Record.{Shown, no_more, shown_of}
 use Rattle.access.specs.Machine.{shown_from}

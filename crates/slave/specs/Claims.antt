@@ -1,8 +1,8 @@
 -- What is claimed of the slave: it is ours, ours is the Rust, and a recorder who strikes out the payload learns nothing of it.
+use Rattle.access.specs.Endings.{Ending}
 use Rattle.std.specs.Prelude.{◌≡◌, true, false, List, [], ℕ, ◌<◌, length, take}
 use Rattle.std.proofs.Math.Option.{some}
 use Rattle.registers.specs.declared.chip.Chip.{Chip}
-use Rattle.access.specs.declared.ending.Ending.{Ending}
 use Rattle.access.specs.declared.ending.Failure.{Failure}
 use Rattle.access.specs.declared.ending.Error.TheVariants.{ReservedAddress}
 use Rattle.access.specs.Program.{Program, Blocking}

@@ -1,8 +1,6 @@
 -- Which states fit what is lent: those whose stage, count and ending a call of the kind can have. The word last read may be any.
-use Rattle.std.specs.Prelude.{Bool, true, false, not, ◌&&◌, ◌||◌, ℕ, suc, pred, eqb, leb, ltb}
-use Rattle.access.specs.declared.ending.Ending.{Ending}
-use Rattle.access.specs.declared.ending.Ending.TheVariants.{Done, Failed}
-use Rattle.access.specs.Endings.{is_done}
+use Rattle.std.specs.Prelude.{Bool, true, false, not, ◌&&◌, ◌||◌, ℕ, suc, pred, eqb, leb, ltb, Ok, Err}
+use Rattle.access.specs.Endings.{Ending, is_done}
 use Rattle.errors.specs.Met.{has_failed}
 use Rattle.slave.specs.declared.stage.StopfFor.{StopfFor}
 use Rattle.slave.specs.declared.stage.StopfFor.TheVariants as stopf
@@ -48,8 +46,8 @@ can_return RespondToWrite size count v x = eqb v count && eqb x 0
 can_return RespondToRead size count v x = leaves_over size count x && (eqb v x || eqb v (leftover size count))
 
 abbrev pub returns_in : Kind → ℕ → ℕ → Ending → Bool
-returns_in x size count (Done o) = can_return x size count o.value o.second
-returns_in x size count (Failed f) = false
+returns_in x size count (Ok o) = can_return x size count o.value o.second
+returns_in x size count (Err f) = false
 
 module _ (g : Setting) where
   abbrev pub counts : Progress → Bool

@@ -1,5 +1,6 @@
 -- Layer 2: `init_slave` as a machine.
-use Rattle.std.specs.Prelude.{Bool, true, false, cond, not, ◌&&◌, ◌||◌, ℕ, eqb, ltb}
+use Rattle.std.specs.Prelude as prelude
+use Rattle.std.specs.Prelude.{Bool, true, false, cond, not, ◌&&◌, ◌||◌, ℕ, eqb, ltb, Some, None}
 use Rattle.std.proofs.Math.Option.{Option, none, some}
 use Rattle.registers.specs.declared.register.Register.TheVariants.{Ctlr1, Ctlr2, Oaddr1, Oaddr2}
 use Rattle.registers.specs.Bits.{PE, ENGC, NOSTRETCH, ACK, ITBUFEN}
@@ -13,8 +14,6 @@ use Rattle.access.specs.Endings.{done}
 use Rattle.access.specs.Machine.{Machine}
 use Rattle.slave.specs.declared.config.SlaveAddress.{SlaveAddress}
 use Rattle.slave.specs.declared.config.SlaveAddress.TheVariants.{SevenBit, TenBit}
-use Rattle.slave.specs.declared.config.SecondAddress.{SecondAddress}
-use Rattle.slave.specs.declared.config.SecondAddress.TheVariants.{Nothing, At}
 use Rattle.slave.specs.declared.config.SlaveConfig.{SlaveConfig}
 use Rattle.slave.specs.declared.init.InitStage.{InitStage}
 use Rattle.slave.specs.declared.init.InitStage.TheVariants.{DisableRead, DisableWrite, BufferRead, BufferWrite, Own, Second, EnableRead, EnableWrite, Ended}
@@ -29,10 +28,10 @@ own_fault (SevenBit a) general = ltb 127 a || (eqb a 0 && not general)
 own_fault (TenBit a) general = ltb 1023 a
 
 -- above 127, or beside an address of ten bits
-abbrev pub second_fault : SlaveAddress → SecondAddress → Bool
-second_fault own Nothing = false
-second_fault (SevenBit a) (At b) = ltb 127 b
-second_fault (TenBit a) (At b) = true
+abbrev pub second_fault : SlaveAddress → prelude.Option ℕ → Bool
+second_fault own None = false
+second_fault (SevenBit a) (Some b) = ltb 127 b
+second_fault (TenBit a) (Some b) = true
 
 unfoldable pub config_fault : SlaveConfig → Bool
 config_fault c = own_fault c.address c.general_call || second_fault c.address c.second_address
@@ -48,9 +47,9 @@ abbrev pub own_word_of : SlaveAddress → ℕ
 own_word_of (SevenBit a) = own_seven a
 own_word_of (TenBit a) = own_ten a
 
-abbrev pub second_word_of : SecondAddress → ℕ
-second_word_of Nothing = 0
-second_word_of (At a) = second_address a
+abbrev pub second_word_of : prelude.Option ℕ → ℕ
+second_word_of None = 0
+second_word_of (Some a) = second_address a
 
 abbrev pub enable_word : SlaveConfig → ℕ → ℕ
 enable_word c w = put_bit PE true (put_bit ACK true (put_bit NOSTRETCH (not c.clock_stretching) (put_bit ENGC c.general_call w)))

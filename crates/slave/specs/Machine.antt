@@ -1,5 +1,5 @@
 -- Layer 2: listen and the two responders as one machine. Each turn of their loops begins at `Poll`.
-use Rattle.std.specs.Prelude.{true, false, cond, not, ◌&&◌, ℕ, suc, pred, ◌-◌, eqb, leb, ltb}
+use Rattle.std.specs.Prelude.{true, false, cond, not, ◌&&◌, ℕ, suc, pred, ◌-◌, eqb, leb, ltb, Err}
 use Rattle.registers.specs.declared.chip.Chip.{Chip}
 use Rattle.registers.specs.declared.register.Register.TheVariants.{Ctlr1, Ctlr2, Oaddr1, Oaddr2, Star1, Star2}
 use Rattle.registers.specs.Bits.{STOP, ACK, ITBUFEN, ADDMODE, ADDR, STOPF, RXNE, TXE, AF, MSL, BUSY, TRA, GENCALL, DUALF}
@@ -8,11 +8,9 @@ use Rattle.registers.specs.Word.{has_bit, put_bit, field_of, put_field}
 use Rattle.registers.specs.Flags.{error_flags, clear_error}
 use Rattle.access.specs.declared.ending.Failure.{Failure}
 use Rattle.access.specs.declared.ending.Error.TheVariants.{Timeout}
-use Rattle.access.specs.declared.ending.Ending.{Ending}
-use Rattle.access.specs.declared.ending.Ending.TheVariants.{Failed}
 use Rattle.access.specs.declared.need.Need.{Need}
 use Rattle.access.specs.declared.need.Need.TheVariants as need
-use Rattle.access.specs.Endings.{done, returned, returned_both, failure_of}
+use Rattle.access.specs.Endings.{Ending, done, returned, returned_both, failure_of}
 use Rattle.access.specs.Program.{late}
 use Rattle.access.specs.Machine.{Machine}
 use Rattle.errors.specs.Classes.{error_of, decided}
@@ -64,7 +62,7 @@ fresh = record { count = 0; word = 0; ending = done }
 
 -- an error: the abort begins
 abbrev pub fails : Failure → Progress → Move
-fails x d = to (Abort abort.DisableRead) (ends_with (Failed x) d)
+fails x d = to (Abort abort.DisableRead) (ends_with (Err x) d)
 
 -- ---- where an answer leads
 

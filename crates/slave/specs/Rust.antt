@@ -1,6 +1,6 @@
 -- Layer 1: the blocking slave of src/i2c.rs and src/i2c/slave.rs, one definition for each function, callees first. From two places on
 -- the text is over parts that stand above it: those are the Rust's, and Ours.antt has others.
-use Rattle.std.specs.Prelude.{Bool, true, false, cond, not, ◌&&◌, ◌||◌, List, ℕ, suc, pred, ◌+◌, ◌-◌, ◌*◌, ◌/◌, ◌%◌, min, eqb, leb, ltb, length, get_or}
+use Rattle.std.specs.Prelude.{Bool, true, false, cond, not, ◌&&◌, ◌||◌, List, ℕ, suc, pred, ◌+◌, ◌-◌, ◌*◌, ◌/◌, ◌%◌, min, eqb, leb, ltb, length, get_or, Option, Some, None}
 use Rattle.registers.specs.declared.chip.Chip.{Chip}
 use Rattle.registers.specs.declared.register.Register.TheVariants.{Ctlr1, Ctlr2, Oaddr1, Oaddr2, Datar, Star1, Star2}
 use Rattle.registers.specs.Bits.{PE, ENGC, NOSTRETCH, STOP, ACK, ITERREN, ITEVTEN, ITBUFEN, DMAEN, ADD0, MUST1, ADDMODE, ENDUAL, ADDR, STOPF, RXNE, TXE, BERR, ARLO, AF, OVR, PECERR, TIMEOUT, MSL, BUSY, TRA, GENCALL, DUALF}
@@ -13,8 +13,6 @@ use Rattle.access.specs.Endings.{failure_of}
 use Rattle.access.specs.Program.{Blocking, pure, throw, read_register, write_register, modify, send_data, store, when◌then◌else◌, only_if, on_drop, continue, return, loop, check_timeout, ◌>>◌, ◌>>=◌}
 use Rattle.slave.specs.declared.config.SlaveAddress.{SlaveAddress}
 use Rattle.slave.specs.declared.config.SlaveAddress.TheVariants.{SevenBit, TenBit}
-use Rattle.slave.specs.declared.config.SecondAddress.{SecondAddress}
-use Rattle.slave.specs.declared.config.SecondAddress.TheVariants.{Nothing, At}
 use Rattle.slave.specs.declared.config.SlaveConfig.{SlaveConfig}
 use Rattle.slave.specs.declared.command.SlaveCommandKind.{SlaveCommandKind}
 use Rattle.slave.specs.declared.command.SlaveCommandKind.TheVariants.{GeneralCall, Read, Write}
@@ -37,9 +35,9 @@ is_ten_bit (SevenBit addr) = false
 is_ten_bit (TenBit addr) = true
 
 -- `if let Some(addr2) = self.second_address`
-abbrev pub validate_second : SlaveAddress → SecondAddress → Blocking (Unit {0})
-validate_second own Nothing = pure tt
-validate_second own (At addr2) = only_if (ltb 0x7f addr2 || is_ten_bit own) (fail InvalidAddress)
+abbrev pub validate_second : SlaveAddress → Option ℕ → Blocking (Unit {0})
+validate_second own None = pure tt
+validate_second own (Some addr2) = only_if (ltb 0x7f addr2 || is_ten_bit own) (fail InvalidAddress)
 
 unfoldable pub validate : SlaveConfig → Blocking (Unit {0})
 validate config = do
@@ -107,9 +105,9 @@ own_word (SevenBit addr) = put_field ADD7_1 addr (put_bit MUST1 true (put_bit AD
 own_word (TenBit addr) = put_bit ADD0 (has_bit 0 addr) (put_field ADD7_1 (addr / 2 % 256) (put_field ADD9_8 (addr / 256 % 256) (put_bit MUST1 true (put_bit ADDMODE true 0))))
 
 -- `if let Some(addr2) = config.second_address`
-abbrev pub second_word : SecondAddress → ℕ
-second_word Nothing = put_bit ENDUAL false 0
-second_word (At addr2) = put_bit ENDUAL true (put_field ADD2 addr2 0)
+abbrev pub second_word : Option ℕ → ℕ
+second_word None = put_bit ENDUAL false 0
+second_word (Some addr2) = put_bit ENDUAL true (put_field ADD2 addr2 0)
 
 unfoldable pub init_slave : SlaveConfig → Blocking (Unit {0})
 init_slave config = do

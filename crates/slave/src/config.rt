@@ -7,18 +7,11 @@ pub enum SlaveAddress {
     TenBit(u16),
 }
 
-// The Rust's `Option<u8>`.
-#[derive(Clone, Copy)]
-pub enum SecondAddress {
-    Nothing,
-    At(u8),
-}
-
 // The Rust's `SlaveConfig`.
 #[derive(Clone, Copy)]
 pub struct SlaveConfig {
     pub address: SlaveAddress,
-    pub second_address: SecondAddress,
+    pub second_address: Option<u8>,
     pub general_call: bool,
     pub clock_stretching: bool,
 }

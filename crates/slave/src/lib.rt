@@ -8,6 +8,6 @@ pub mod stage;
 pub mod state;
 
 pub use command::{SlaveCommand, SlaveCommandKind};
-pub use config::{SecondAddress, SlaveAddress, SlaveConfig};
+pub use config::{SlaveAddress, SlaveConfig};
 pub use stage::Stage;
 pub use state::{Kind, Move, Progress, Setting, State};

@@ -5,14 +5,7 @@ ghost use Rattle.slave.specs.Init.{own_fault, second_fault, config_fault};
 ghost use Rattle.slave_driver.specs.Validated.{validated};
 
 use access::Error;
-use slave::{SecondAddress, SlaveAddress, SlaveConfig};
-
-// What `validate` answers.
-#[derive(Clone, Copy)]
-pub enum Validation {
-    Valid,
-    Refused(Error),
-}
+use slave::{SlaveAddress, SlaveConfig};
 
 // Above 127, or 0 without general call; of ten bits, above 1023.
 fn own_fault(own: SlaveAddress, general: bool) -> bool
@@ -25,31 +18,29 @@ fn own_fault(own: SlaveAddress, general: bool) -> bool
 }
 
 // Above 127, or beside an address of ten bits.
-fn second_fault(own: SlaveAddress, second: SecondAddress) -> bool
+fn second_fault(own: SlaveAddress, second: Option<u8>) -> bool
     ensures { result ≡ second_fault own second }
 {
-    match second {
-        SecondAddress::Nothing => false,
-        SecondAddress::At(b) => match own {
-            SlaveAddress::SevenBit(_) => 127 < b,
-            SlaveAddress::TenBit(_) => true,
-        },
+    match (own, second) {
+        (_, None) => false,
+        (SlaveAddress::SevenBit(_), Some(b)) => 127 < b,
+        (SlaveAddress::TenBit(_), Some(_)) => true,
     }
 }
 
+#[tactic(auto, unfolding(slave::specs::Init::config_fault))]
 fn config_fault(config: SlaveConfig) -> bool
     ensures { result ≡ config_fault config }
 {
-    let own = config.address;
-    let second = config.second_address;
-    own_fault(own, config.general_call) | second_fault(own, second)
+    own_fault(config.address, config.general_call)
+        | second_fault(config.address, config.second_address)
 }
 
 // What UM10204 reserves.
 fn is_reserved(a: u16) -> bool
     ensures { result ≡ reserved a }
 {
-    ((0x01 <= a) & (a <= 0x07)) | ((0x78 <= a) & (a <= 0x7f))
+    matches!(a, 0x01..=0x07 | 0x78..=0x7f)
 }
 
 // Of seven bits alone.
@@ -63,32 +54,31 @@ fn own_reserved(own: SlaveAddress) -> bool
 }
 
 // 0 too, which is the general call.
-fn second_reserved(second: SecondAddress) -> bool
+fn second_reserved(second: Option<u8>) -> bool
     ensures { result ≡ second_reserved second }
 {
     match second {
-        SecondAddress::Nothing => false,
-        SecondAddress::At(b) => (b == 0) | is_reserved(b as u16),
+        None => false,
+        Some(b) => (b == 0) | is_reserved(b as u16),
     }
 }
 
+#[tactic(auto, unfolding(slave::specs::Reserved::config_reserved))]
 fn config_reserved(config: SlaveConfig) -> bool
     ensures { result ≡ config_reserved config }
 {
-    let own = config.address;
-    let second = config.second_address;
-    own_reserved(own) | second_reserved(second)
+    own_reserved(config.address) | second_reserved(config.second_address)
 }
 
 // 9, then 17.
-pub fn validate(config: SlaveConfig) -> Validation
+pub fn validate(config: SlaveConfig) -> Result<(), Error>
     ensures { result ≡ validated config }
 {
     if config_fault(config) {
-        return Validation::Refused(Error::InvalidAddress);
+        return Err(Error::InvalidAddress);
     }
     if config_reserved(config) {
-        return Validation::Refused(Error::ReservedAddress);
+        return Err(Error::ReservedAddress);
     }
-    Validation::Valid
+    Ok(())
 }

@@ -1,11 +1,11 @@
 // `init_slave`, access by access: which access a state owes, and where its answer leads.
 ghost use Rattle.std.specs.Prelude.{◌≡◌};
-ghost use Rattle.slave.specs.Init.{own_word_of, second_word_of, enable_word, to, saving, owed_at, owed, advance_at, advance};
+ghost use Rattle.slave.specs.Init.{own_word_of, second_word_of, enable_word, to, saving, owed, advance};
 
 use access::Need;
 use registers::{Register, addresses, bits, word};
 use slave::init::{InitStage, InitState};
-use slave::{SecondAddress, SlaveAddress, SlaveConfig};
+use slave::{SlaveAddress, SlaveConfig};
 
 // OADDR1's word.
 fn own_word(own: SlaveAddress) -> u16
@@ -18,12 +18,12 @@ fn own_word(own: SlaveAddress) -> u16
 }
 
 // OADDR2's word.
-fn second_word(second: SecondAddress) -> u16
+fn second_word(second: Option<u8>) -> u16
     ensures { result ≡ second_word_of second }
 {
     match second {
-        SecondAddress::Nothing => 0,
-        SecondAddress::At(a) => addresses::second_address(a as u16),
+        None => 0,
+        Some(a) => addresses::second_address(a as u16),
     }
 }
 
@@ -36,37 +36,31 @@ fn enable_word(config: SlaveConfig, control: u16) -> u16
     word::set_bit(word::set_bit(stretched, bits::ACK), bits::PE)
 }
 
-// The state at another stage.
+// The state at another stage. (`init` has the same two: a generic one would be a trait that sets the fields, longer than both.)
 fn to(state: InitState, stage: InitStage) -> InitState
     ensures { result ≡ to stage state }
 {
-    let config = state.config;
-    InitState {
-        config,
-        stage,
-        saved: state.saved,
-    }
+    InitState { stage, ..state }
 }
 
 // The state at another stage, with the word that was read.
 fn saving(state: InitState, stage: InitStage, word: u16) -> InitState
     ensures { result ≡ saving stage word state }
 {
-    let config = state.config;
     InitState {
-        config,
         stage,
         saved: word,
+        ..state
     }
 }
 
-fn owed_at(stage: InitStage, state: InitState) -> Need
-    ensures { result ≡ owed_at stage state }
+// What a state needs.
+#[tactic(auto, unfolding(slave::specs::Init::owed))]
+pub fn owed(state: InitState) -> Need
+    ensures { result ≡ owed state }
 {
     let config = state.config;
-    let own = config.address;
-    let second = config.second_address;
-    match stage {
+    match state.stage {
         InitStage::DisableRead => Need::Read(Register::Ctlr1),
         InitStage::DisableWrite => {
             Need::Write(Register::Ctlr1, word::clear_bit(state.saved, bits::PE))
@@ -75,26 +69,20 @@ fn owed_at(stage: InitStage, state: InitState) -> Need
         InitStage::BufferWrite => {
             Need::Write(Register::Ctlr2, word::clear_bit(state.saved, bits::ITBUFEN))
         }
-        InitStage::Own => Need::Write(Register::Oaddr1, own_word(own)),
-        InitStage::Second => Need::Write(Register::Oaddr2, second_word(second)),
+        InitStage::Own => Need::Write(Register::Oaddr1, own_word(config.address)),
+        InitStage::Second => Need::Write(Register::Oaddr2, second_word(config.second_address)),
         InitStage::EnableRead => Need::Read(Register::Ctlr1),
         InitStage::EnableWrite => { Need::Write(Register::Ctlr1, enable_word(config, state.saved)) }
         InitStage::Ended => Need::End(access::ending::done()),
     }
 }
 
-// What a state needs.
-pub fn owed(state: InitState) -> Need
-    ensures { result ≡ owed state }
+// Where an answer leads.
+#[tactic(auto, unfolding(slave::specs::Init::advance))]
+pub fn advance(state: InitState, answer: u16) -> InitState
+    ensures { result ≡ advance state answer }
 {
-    let stage = state.stage;
-    owed_at(stage, state)
-}
-
-fn advance_at(stage: InitStage, state: InitState, answer: u16) -> InitState
-    ensures { result ≡ advance_at stage state answer }
-{
-    match stage {
+    match state.stage {
         InitStage::DisableRead => saving(state, InitStage::DisableWrite, answer),
         InitStage::DisableWrite => to(state, InitStage::BufferRead),
         InitStage::BufferRead => saving(state, InitStage::BufferWrite, answer),
@@ -105,12 +93,4 @@ fn advance_at(stage: InitStage, state: InitState, answer: u16) -> InitState
         InitStage::EnableWrite => to(state, InitStage::Ended),
         InitStage::Ended => to(state, InitStage::Ended),
     }
-}
-
-// Where an answer leads.
-pub fn advance(state: InitState, answer: u16) -> InitState
-    ensures { result ≡ advance state answer }
-{
-    let stage = state.stage;
-    advance_at(stage, state, answer)
 }

@@ -5,10 +5,11 @@ use mathlib.Core.Bool.{Bool, true, false}
 use mathlib.Core.List.{List, [], ◌∷◌, map}
 use native.Mathlib.Omega.{arith}
 use lib.Dec.{lit<, lit≤}
+use Rattle.std.specs.Prelude.{Option}
 use Rattle.registers.specs.declared.chip.Chip.{Chip}
 use Rattle.timing.specs.declared.settings.Duty.TheVariants.{Duty2_1}
 use Rattle.timing.specs.Rust.{timing}
-use Rattle.speed_window.specs.declared.pair.Found.{Found}
+use Rattle.speed_window.specs.declared.pair.Pair.{Pair}
 use Rattle.speed_window.specs.Pairs.{standard, Right, Finds}
 use Rattle.speed_window.specs.Formula.{fastest_of, window}
 use Rattle.speed_window.specs.Setting.{AreOf, are_of, unset, NoFrequencySets}
@@ -16,7 +17,7 @@ use Rattle.speed_window.specs.Edges.{Row, edges, AllFound}
 use Rattle.speed_window.proofs.WindowLaws.{window_finds}
 use Rattle.speed_window.proofs.PairsAreSet.{pairs_are_set}
 
-abbrev computed : Row → Found
+abbrev computed : Row → Option Pair
 computed r = window r.input r.lowest r.highest
 
 edges_computed : map computed edges ≡ map (λ r. r.answer) edges
@@ -29,10 +30,10 @@ all_found [] e = tt
 all_found (r ∷ rows) e =
     (subst (Finds r.input (Right r.input r.lowest r.highest)) (first e) (window_finds r.input r.lowest r.highest), all_found rows (rest e))
   where
-    first : {x y : Found} {xs ys : List Found} → x ∷ xs ≡ y ∷ ys → x ≡ y
+    first : {x y : Option Pair} {xs ys : List (Option Pair)} → x ∷ xs ≡ y ∷ ys → x ≡ y
     first e = cc
 
-    rest : {x y : Found} {xs ys : List Found} → x ∷ xs ≡ y ∷ ys → xs ≡ ys
+    rest : {x y : Option Pair} {xs ys : List (Option Pair)} → x ∷ xs ≡ y ∷ ys → xs ≡ ys
     rest e = cc
 
 pub edges_found : AllFound edges

@@ -8,12 +8,12 @@ use native.Mathlib.Decide.{dec_le}
 use native.Mathlib.Omega.{arith}
 use lib.Dec.{eqb, leb}
 use borrow.Author.Tests.{leb-true, eqb-true, le-leb}
+use Rattle.std.specs.Prelude.{Some, None}
 use Rattle.access.proofs.Choice.{chosen, both_true, first_true, second_true}
 use Rattle.timing.specs.Document.{Least, Enough}
 use Rattle.timing.specs.Rust.{div_ceil}
 use Rattle.timing.proofs.LeastLaws.{formula}
 use Rattle.speed_window.specs.declared.pair.Pair.{Pair}
-use Rattle.speed_window.specs.declared.pair.Found.TheVariants.{At, Nothing}
 use Rattle.speed_window.specs.Pairs.{Right, Preferred, faster, smaller_divider, Finds, found, nothing}
 use Rattle.speed_window.specs.Formula.{pair, within, is_right, fastest_of}
 use Rattle.speed_window.proofs.PairLaws.{with_factor}
@@ -106,7 +106,7 @@ module _ (factor floor top : ℕ) (h : HasLimits factor floor top) (input lowest
   divided p r = subst (Right input lowest highest) (with_factor p r.1) r.0
 
   -- the least divider makes the best of them, or there is none
-  pub least_finds : (c : ℕ) → Least (Enough input step floor) c → Finds input (RightOf input lowest highest factor) (cond (right c) (At (pair factor c)) Nothing)
+  pub least_finds : (c : ℕ) → Least (Enough input step floor) c → Finds input (RightOf input lowest highest factor) (cond (right c) (Some (pair factor c)) None)
   least_finds c l =
       chosen (Finds input (RightOf input lowest highest factor)) (right c) (λ t. found (record { holds = (passed_right c l.holds t, refl); best = best }))
       (λ t. nothing (λ p r. absurd (true≢false (sym (right_passed c l p.divider (divided p r)) ∙ t))))

@@ -7,11 +7,11 @@ use native.Mathlib.Nat.{mul-pos}
 use native.Mathlib.Omega.{arith}
 use lib.Dec.{eqb, lit<}
 use borrow.Author.Tests.{eqb-false, lt-leb}
+use Rattle.std.specs.Prelude.{Option, Some, None}
 use Rattle.access.proofs.Choice.{chosen, when_true, when_false}
 use Rattle.timing.specs.Document.{Least, Enough}
 use Rattle.timing.proofs.LeastLaws.{is_formula}
-use Rattle.speed_window.specs.declared.pair.Found.{Found}
-use Rattle.speed_window.specs.declared.pair.Found.TheVariants.{At, Nothing}
+use Rattle.speed_window.specs.declared.pair.Pair.{Pair}
 use Rattle.speed_window.specs.Formula.{pair, within, is_inside, is_right, fastest_of}
 
 -- a divider that is too large is not right, whatever the other tests say
@@ -27,18 +27,18 @@ module _ (factor floor top input lowest highest : ℕ) (f : 0 < factor) (t : 0 <
       above n = omega arith
 
   module _ (c : ℕ) (l : Least (Enough input (factor * within highest top) floor) c) where
-    abbrev tested : ℕ → Found
-    tested d = cond (is_right input lowest highest (pair factor d)) (At (pair factor d)) Nothing
+    abbrev tested : ℕ → Option Pair
+    tested d = cond (is_right input lowest highest (pair factor d)) (Some (pair factor d)) None
 
     is_fastest : tested c ≡ fastest_of factor floor top input lowest highest
     unfolding fastest_of
     is_fastest = ap tested (is_formula input (factor * within highest top) floor step_pos c l)
 
-    pub right_fastest : is_right input lowest highest (pair factor c) ≡ true → At (pair factor c) ≡ fastest_of factor floor top input lowest highest
+    pub right_fastest : is_right input lowest highest (pair factor c) ≡ true → Some (pair factor c) ≡ fastest_of factor floor top input lowest highest
     right_fastest r = when_true _ _ r ∙ is_fastest
 
-    pub wrong_fastest : is_right input lowest highest (pair factor c) ≡ false → Nothing ≡ fastest_of factor floor top input lowest highest
+    pub wrong_fastest : is_right input lowest highest (pair factor c) ≡ false → None ≡ fastest_of factor floor top input lowest highest
     wrong_fastest r = when_false _ _ r ∙ is_fastest
 
-    pub too_large : 4095 < c → Nothing ≡ fastest_of factor floor top input lowest highest
+    pub too_large : 4095 < c → None ≡ fastest_of factor floor top input lowest highest
     too_large h = wrong_fastest (last_false (is_inside input lowest highest (pair factor c)) (lt-leb c 4095 h))

@@ -1,4 +1,3 @@
-pub mod ProductLaws
 pub mod PreferredLaws
 pub mod PairLaws
 pub mod LimitLaws

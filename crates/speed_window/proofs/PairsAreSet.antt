@@ -4,8 +4,8 @@ use Prim.Native.Nat.{ℕ, ◌≤◌}
 use mathlib.Core.Path.{◌≡◌, refl, sym, subst, ◌∙◌}
 use mathlib.Core.Bool.{true, true≢false}
 use native.Mathlib.Omega.{arith}
+use Rattle.std.specs.Prelude.{Err}
 use Rattle.access.specs.declared.ending.Error.TheVariants.{InputTooSlow}
-use Rattle.timing.specs.declared.settings.Timed.TheVariants as timed
 use Rattle.timing.specs.Rust.{timing}
 use Rattle.timing.proofs.TimingLaws as timingLaws
 use Rattle.speed_window.specs.declared.pair.Pair.{Pair}
@@ -46,7 +46,7 @@ pairs_are_set = record {
       by_mode input lowest highest p r (Sets chip input)
       (λ m l e. any_sets m chip input p.divider l pos frequency duty (subst (λ (q : Pair). AreOf q (timing chip input frequency duty)) e h));
   too_slow = λ chip input lowest highest p r pos v h.
-      by_mode input lowest highest p r (λ q. timing chip input (frequency_of input q) (duty_of q) ≡ timed.Refused InputTooSlow)
+      by_mode input lowest highest p r (λ q. timing chip input (frequency_of input q) (duty_of q) ≡ Err InputTooSlow)
       (λ m l e. slow_refused m chip input p.divider l pos v h);
   no_input = λ chip lowest highest p r. rw (no_frequency p r.allowed) (sym (timingLaws.bad_frequency chip 0 0 (duty_of p) refl));
 }

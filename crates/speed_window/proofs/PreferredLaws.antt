@@ -4,9 +4,8 @@ use Prim.Native.Nat.{ℕ}
 use mathlib.Core.Path.{◌≡◌, refl, ap}
 use native.Mathlib.Nat.{le_antisymm}
 use native.Mathlib.Omega.{arith}
+use Rattle.std.specs.Prelude.{Option, Some, None}
 use Rattle.speed_window.specs.declared.pair.Pair.{Pair}
-use Rattle.speed_window.specs.declared.pair.Found.{Found}
-use Rattle.speed_window.specs.declared.pair.Found.TheVariants.{At, Nothing}
 use Rattle.speed_window.specs.Pairs.{Preferred, faster, smaller_factor, smaller_divider, Best, Finds, found, nothing}
 
 module _ {input : ℕ} where
@@ -38,8 +37,8 @@ module _ {input : ℕ} where
   one_best p q a b = preferred_same p q (a.best q b.holds) (b.best p a.holds)
 
   -- so there is one answer
-  pub one_answer : {P : Pair → Type 0} (x y : Found) → Finds input P x → Finds input P y → x ≡ y
-  one_answer (At p) (At q) (found a) (found b) = ap At (one_best p q a b)
-  one_answer (At p) Nothing (found a) (nothing b) = absurd (b p a.holds)
-  one_answer Nothing (At q) (nothing a) (found b) = absurd (a q b.holds)
-  one_answer Nothing Nothing (nothing a) (nothing b) = refl
+  pub one_answer : {P : Pair → Type 0} (x y : Option Pair) → Finds input P x → Finds input P y → x ≡ y
+  one_answer (Some p) (Some q) (found a) (found b) = ap Some (one_best p q a b)
+  one_answer (Some p) None (found a) (nothing b) = absurd (b p a.holds)
+  one_answer None (Some q) (nothing a) (found b) = absurd (a q b.holds)
+  one_answer None None (nothing a) (nothing b) = refl

@@ -8,13 +8,13 @@ use native.Mathlib.Decide.{dec_le}
 use native.Mathlib.Omega.{arith}
 use lib.Dec.{eqb, ltb, leb}
 use borrow.Author.Tests.{ltb-true, lt-ltb, le-leb, lt-leb}
+use Rattle.std.specs.Prelude.{Result, Ok, Err}
 use Rattle.registers.specs.declared.chip.Chip.{Chip}
 use Rattle.access.specs.declared.ending.Error.{Error}
 use Rattle.access.specs.declared.ending.Error.TheVariants.{InputTooSlow}
 use Rattle.access.proofs.Choice.{both_true}
+use Rattle.timing.specs.declared.settings.Timing.{Timing}
 use Rattle.timing.specs.declared.settings.Duty.{Duty}
-use Rattle.timing.specs.declared.settings.Timed.{Timed}
-use Rattle.timing.specs.declared.settings.Timed.TheVariants as timed
 use Rattle.timing.specs.Document.{Least, Enough}
 use Rattle.timing.specs.Document as document
 use Rattle.timing.specs.Rust.{div_ceil, timing}
@@ -42,17 +42,17 @@ slow_fails : (chip : Chip) (input : ℕ) → chip.ch32v4 ≡ true → input < 4_
 slow_fails chip input v h = rw v (lt-leb 4 (input / 1_000_000) (omega arith))
 
 -- settings that are a pair's are no refusal
-is_settled : Timed → Bool
-is_settled (timed.At t) = true
-is_settled (timed.Refused e) = false
+is_settled : Result Timing Error → Bool
+is_settled (Ok t) = true
+is_settled (Err e) = false
 
-no_refusal : {p : Pair} {e : Error} (x : Timed) → AreOf p x → timed.Refused e ≡ x → ⊥
+no_refusal : {p : Pair} {e : Error} (x : Result Timing Error) → AreOf p x → Err e ≡ x → ⊥
 unfolding is_settled
 no_refusal x h q = true≢false (sym (go x h) ∙ ap is_settled (sym q))
   where
-    go : {p : Pair} (x : Timed) → AreOf p x → is_settled x ≡ true
-    go (timed.At t) (are_of a b c) = refl
-    go (timed.Refused e) h = elim h [ ]
+    go : {p : Pair} (x : Result Timing Error) → AreOf p x → is_settled x ≡ true
+    go (Ok t) (are_of a b c) = refl
+    go (Err e) h = elim h [ ]
 
 taken_enough : (chip : Chip) (input n : ℕ) (duty : Duty) (p : Pair) → AreOf p (timing chip input n duty) → EnoughFor chip input
 taken_enough chip input n duty p h v = go (dec_le 4_000_000 input)
@@ -157,8 +157,8 @@ module _ (m : Mode) (chip : Chip) (input d : ℕ) (l : LimitsOf m input d) (pos 
         go e h (no g) = absurd (never e h (omega arith) (b.best (pair m.factor e) (right e h (omega arith))))
 
   -- where a frequency chose the divider, a lower one has no smaller one
-  no_smaller : (n : ℕ) (other : Duty) (x : Timed) → document.AsDocumented chip input n other x → AreOf (pair m.factor d) x → (e : ℕ) → Enough input (frequency * m.factor) m.floor e → d ≤ e
-  no_smaller n other (timed.At t) (document.settled none-failed doc) (are_of a b c) e h =
+  no_smaller : (n : ℕ) (other : Duty) (x : Result Timing Error) → document.AsDocumented chip input n other x → AreOf (pair m.factor d) x → (e : ℕ) → Enough input (frequency * m.factor) m.floor e → d ≤ e
+  no_smaller n other (Ok t) (document.settled none-failed doc) (are_of a b c) e h =
       subst (λ (k : ℕ). k ≤ e) a (doc.divider.least e (record { reaches = rw factor_was reaches; allowed = rw (quick_is, m.floor_is) h.allowed }))
     where
       quick_is : ltb 100_000 n ≡ m.quick
@@ -172,10 +172,10 @@ module _ (m : Mode) (chip : Chip) (input d : ℕ) (l : LimitsOf m input d) (pos 
 
       reaches : input ≤ e * m.factor * n
       reaches = let more : frequency * (e * m.factor) ≤ n * (e * m.factor) = mul-le-mul_right (e * m.factor) lower in let r = h.reaches in omega arith
-  no_smaller n other (timed.Refused r) _ x e h = elim x [ ]
+  no_smaller n other (Err r) _ x e h = elim x [ ]
 
   pub any_sets : (n : ℕ) (other : Duty) → AreOf (pair m.factor d) (timing chip input n other) → Sets chip input (pair m.factor d)
   any_sets n other h = sets_by (taken_enough chip input n other (pair m.factor d) h) (no_smaller n other (timing chip input n other) (documented chip input n other) h)
 
-  pub slow_refused : chip.ch32v4 ≡ true → input < 4_000_000 → timing chip input frequency (duty_of (pair m.factor d)) ≡ timed.Refused InputTooSlow
+  pub slow_refused : chip.ch32v4 ≡ true → input < 4_000_000 → timing chip input frequency (duty_of (pair m.factor d)) ≡ Err InputTooSlow
   slow_refused v h = rw m.duty_told (sym (timingLaws.too_slow chip input frequency m.duty is_allowed (slow_fails chip input v h)))

@@ -9,10 +9,9 @@ use native.Mathlib.Decide.{dec_le}
 use native.Mathlib.Omega.{arith}
 use lib.Dec.{ltb}
 use borrow.Author.Tests.{ltb-true, ltb-false}
+use Rattle.std.specs.Prelude.{Option, Some, None}
 use Rattle.access.proofs.Choice.{chosen}
 use Rattle.speed_window.specs.declared.pair.Pair.{Pair}
-use Rattle.speed_window.specs.declared.pair.Found.{Found}
-use Rattle.speed_window.specs.declared.pair.Found.TheVariants.{At, Nothing}
 use Rattle.speed_window.specs.Pairs.{clocks, Allowed, standard, fast, Right, Preferred, faster, smaller_factor, Finds, found, nothing}
 use Rattle.speed_window.specs.Formula.{better, window}
 use Rattle.speed_window.proofs.PreferredLaws.{preferred_trans}
@@ -29,13 +28,13 @@ abbrev Later : ℕ → (Pair → Type 0) → (Pair → Type 0) → Type 0
 Later input P Q = (p q : Pair) → P p → Q q → (0 < input) × (p.factor < q.factor)
 
 module _ {input : ℕ} {P Q : Pair → Type 0} where
-  pub better_finds : Later input P Q → (x y : Found) → Finds input P x → Finds input Q y → Finds input (Either P Q) (better x y)
-  better_finds later Nothing Nothing (nothing a) (nothing b) = nothing (λ p. ⊎_elim (a p) (b p))
-  better_finds later Nothing (At q) (nothing a) (found b) =
+  pub better_finds : Later input P Q → (x y : Option Pair) → Finds input P x → Finds input Q y → Finds input (Either P Q) (better x y)
+  better_finds later None None (nothing a) (nothing b) = nothing (λ p. ⊎_elim (a p) (b p))
+  better_finds later None (Some q) (nothing a) (found b) =
       found (record { holds = inr b.holds; best = λ r. ⊎_elim (λ h. absurd (a r h)) (b.best r) })
-  better_finds later (At p) Nothing (found a) (nothing b) =
+  better_finds later (Some p) None (found a) (nothing b) =
       found (record { holds = inl a.holds; best = λ r. ⊎_elim (a.best r) (λ h. absurd (b r h)) })
-  better_finds later (At p) (At q) (found a) (found b) =
+  better_finds later (Some p) (Some q) (found a) (found b) =
       chosen (Finds input (Either P Q)) (ltb (clocks q) (clocks p))
       (λ t. found (record { holds = inr b.holds; best = λ r. ⊎_elim (λ h. preferred_trans (second t) (a.best r h)) (b.best r) }))
       (λ t. found (record { holds = inl a.holds; best = λ r. ⊎_elim (a.best r) (λ h. preferred_trans (first t) (b.best r h)) }))
@@ -54,9 +53,9 @@ module _ {input : ℕ} {P Q : Pair → Type 0} where
           go (no l) = faster (omega arith)
 
 -- the same answer for a property that holds of the same pairs
-same_finds : {input : ℕ} {P Q : Pair → Type 0} → ((p : Pair) → P p → Q p) → ((p : Pair) → Q p → P p) → (x : Found) → Finds input P x → Finds input Q x
-same_finds to from (At p) (found a) = found (record { holds = to p a.holds; best = λ q h. a.best q (from q h) })
-same_finds to from Nothing (nothing a) = nothing (λ p h. a p (from p h))
+same_finds : {input : ℕ} {P Q : Pair → Type 0} → ((p : Pair) → P p → Q p) → ((p : Pair) → Q p → P p) → (x : Option Pair) → Finds input P x → Finds input Q x
+same_finds to from (Some p) (found a) = found (record { holds = to p a.holds; best = λ q h. a.best q (from q h) })
+same_finds to from None (nothing a) = nothing (λ p h. a p (from p h))
 
 module _ (input lowest highest : ℕ) where
   abbrev Of : ℕ → Pair → Type 0

@@ -1,8 +1,6 @@
 -- What is claimed of the answer.
-use Rattle.std.specs.Prelude.{ℕ, ◌<◌, ◌≤◌, ◌≡◌}
+use Rattle.std.specs.Prelude.{ℕ, ◌<◌, ◌≤◌, ◌≡◌, Option, None}
 use Rattle.speed_window.specs.declared.pair.Pair.{Pair}
-use Rattle.speed_window.specs.declared.pair.Found.{Found}
-use Rattle.speed_window.specs.declared.pair.Found.TheVariants.{Nothing}
 use Rattle.speed_window.specs.Pairs.{clocks, Right, Best, Finds}
 use Rattle.speed_window.specs.Formula.{window}
 
@@ -18,6 +16,6 @@ pub record OneAnswer : Type 0 where
   -- every window has an answer, and the formula gives it
   pub is_found : (input lowest highest : ℕ) → Finds input (Right input lowest highest) (window input lowest highest)
   -- and no other
-  pub only : (input lowest highest : ℕ) (x : Found) → Finds input (Right input lowest highest) x → x ≡ window input lowest highest
+  pub only : (input lowest highest : ℕ) (x : Option Pair) → Finds input (Right input lowest highest) x → x ≡ window input lowest highest
   -- in a window that is upside down nothing is found
-  pub upside_down : (input lowest highest : ℕ) → highest < lowest → window input lowest highest ≡ Nothing
+  pub upside_down : (input lowest highest : ℕ) → highest < lowest → window input lowest highest ≡ None

@@ -1,9 +1,7 @@
 -- The answer as a formula: for each factor the least divider that is slow enough, and of these pairs the best.
-use Rattle.std.specs.Prelude.{ℕ, ◌*◌, max, min, Bool, cond, ◌&&◌, ◌||◌, eqb, ltb, leb}
+use Rattle.std.specs.Prelude.{ℕ, ◌*◌, max, min, Bool, cond, ◌&&◌, ◌||◌, eqb, ltb, leb, Option, Some, None}
 use Rattle.timing.specs.Rust.{div_ceil}
 use Rattle.speed_window.specs.declared.pair.Pair.{Pair}
-use Rattle.speed_window.specs.declared.pair.Found.{Found}
-use Rattle.speed_window.specs.declared.pair.Found.TheVariants.{At, Nothing}
 use Rattle.speed_window.specs.Pairs.{clocks}
 
 abbrev pub pair : ℕ → ℕ → Pair
@@ -26,15 +24,15 @@ module _ (factor floor top input lowest highest : ℕ) where
   least_pair = pair factor (max (div_ceil input (factor * within highest top)) floor)
 
   -- the fastest right pair of a factor, whose dividers begin at the floor and whose speeds end at the top
-  unfoldable pub fastest_of : Found
-  fastest_of = cond (is_right input lowest highest least_pair) (At least_pair) Nothing
+  unfoldable pub fastest_of : Option Pair
+  fastest_of = cond (is_right input lowest highest least_pair) (Some least_pair) None
 
 -- the faster of two, and among equals the first
-abbrev pub better : Found → Found → Found
-better Nothing y = y
-better (At p) Nothing = At p
-better (At p) (At q) = cond (ltb (clocks q) (clocks p)) (At q) (At p)
+abbrev pub better : Option Pair → Option Pair → Option Pair
+better None y = y
+better (Some p) None = Some p
+better (Some p) (Some q) = cond (ltb (clocks q) (clocks p)) (Some q) (Some p)
 
-unfoldable pub window : ℕ → ℕ → ℕ → Found
+unfoldable pub window : ℕ → ℕ → ℕ → Option Pair
 window input lowest highest =
     better (better (fastest_of 2 4 100_000 input lowest highest) (fastest_of 3 1 400_000 input lowest highest)) (fastest_of 25 1 400_000 input lowest highest)

@@ -1,8 +1,6 @@
 -- WHAT IS ASKED FOR, in pairs of a factor and a divider: which pairs are right, and which of them is best. Document 02, request j.
-use Rattle.std.specs.Prelude.{ℕ, ◌*◌, ◌<◌, ◌≤◌, ◌≡◌, ◌⊎◌}
+use Rattle.std.specs.Prelude.{ℕ, ◌*◌, ◌<◌, ◌≤◌, ◌≡◌, ◌⊎◌, Option, Some, None}
 use Rattle.speed_window.specs.declared.pair.Pair.{Pair}
-use Rattle.speed_window.specs.declared.pair.Found.{Found}
-use Rattle.speed_window.specs.declared.pair.Found.TheVariants.{At, Nothing}
 
 -- so many input clocks make a bus clock: the bus speed is input / (factor × divider)
 abbrev pub clocks : Pair → ℕ
@@ -37,6 +35,6 @@ pub record Best (input : ℕ) (P : Pair → Type 0) (p : Pair) : Type 0 where
   pub best : (q : Pair) → P q → Preferred input p q
 
 -- it is found; or nothing is, where no pair has the property
-pub data Finds (input : ℕ) (P : Pair → Type 0) : Found → Type 0 where
-  found : {p : Pair} → Best input P p → Finds input P (At p)
-  nothing : ((p : Pair) → P p → ⊥) → Finds input P Nothing
+pub data Finds (input : ℕ) (P : Pair → Type 0) : Option Pair → Type 0 where
+  found : {p : Pair} → Best input P p → Finds input P (Some p)
+  nothing : ((p : Pair) → P p → ⊥) → Finds input P None

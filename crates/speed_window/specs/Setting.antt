@@ -1,12 +1,11 @@
 -- HOW A PAIR IS SET: with which frequency and duty `timing` chooses its divider, and `init` then writes it.
-use Rattle.std.specs.Prelude.{ℕ, ◌<◌, ◌≤◌, ◌≡◌, Bool, true, cond, not, eqb}
+use Rattle.std.specs.Prelude.{ℕ, ◌<◌, ◌≤◌, ◌≡◌, Bool, true, cond, not, eqb, Result, Ok, Err}
 use Rattle.registers.specs.declared.chip.Chip.{Chip}
+use Rattle.access.specs.declared.ending.Error.{Error}
 use Rattle.access.specs.declared.ending.Error.TheVariants.{InvalidFrequency, InputTooSlow}
 use Rattle.timing.specs.declared.settings.Duty.{Duty}
 use Rattle.timing.specs.declared.settings.Duty.TheVariants.{Duty2_1, Duty16_9}
 use Rattle.timing.specs.declared.settings.Timing.{Timing}
-use Rattle.timing.specs.declared.settings.Timed.{Timed}
-use Rattle.timing.specs.declared.settings.Timed.TheVariants.{At, Refused}
 use Rattle.timing.specs.Rust.{div_ceil, timing}
 use Rattle.speed_window.specs.declared.pair.Pair.{Pair}
 use Rattle.speed_window.specs.Pairs.{clocks, Right, Best}
@@ -26,8 +25,8 @@ abbrev pub duty_of : Pair → Duty
 duty_of p = cond (is16_9 p) Duty16_9 Duty2_1
 
 -- settings are a pair's: its divider, and its factor by mode and duty
-pub data AreOf (p : Pair) : Timed → Type 0 where
-  are_of : {t : Timing} → t.divider ≡ p.divider → t.fast ≡ is_fast p → t.duty ≡ is16_9 p → AreOf p (At t)
+pub data AreOf (p : Pair) : Result Timing Error → Type 0 where
+  are_of : {t : Timing} → t.divider ≡ p.divider → t.fast ≡ is_fast p → t.duty ≡ is16_9 p → AreOf p (Ok t)
 
 -- with that frequency and duty `timing` chooses the pair
 abbrev pub Sets : Chip → ℕ → Pair → Type 0
@@ -48,8 +47,8 @@ pub record PairsAreSet : Type 0 where
   pub if_any : (chip : Chip) (input lowest highest : ℕ) (p : Pair) → Right input lowest highest p → (frequency : ℕ) (duty : Duty) → AreOf p (timing chip input frequency duty) → 0 < input → Sets chip input p
   -- below 4 MHz ch32v4 refuses with 12; an input clock of 0 every chip with 10
   pub too_slow : (chip : Chip) (input lowest highest : ℕ) (p : Pair) → Right input lowest highest p → 0 < input → chip.ch32v4 ≡ true → input < 4_000_000
-      → timing chip input (frequency_of input p) (duty_of p) ≡ Refused InputTooSlow
-  pub no_input : (chip : Chip) (lowest highest : ℕ) (p : Pair) → Right 0 lowest highest p → timing chip 0 (frequency_of 0 p) (duty_of p) ≡ Refused InvalidFrequency
+      → timing chip input (frequency_of input p) (duty_of p) ≡ Err InputTooSlow
+  pub no_input : (chip : Chip) (lowest highest : ℕ) (p : Pair) → Right 0 lowest highest p → timing chip 0 (frequency_of 0 p) (duty_of p) ≡ Err InvalidFrequency
 
 -- one that no frequency sets: at 8 MHz divider 3999 is right for 1,000 to 1,001 Hz, but 1,001 Hz, its speed rounded up, chooses 3997
 abbrev pub unset : Pair

@@ -5,4 +5,4 @@ mod fastest;
 pub mod pair;
 pub mod window;
 
-pub use pair::{Found, Pair};
+pub use pair::Pair;

@@ -9,14 +9,10 @@ pub struct Pair {
     pub divider: u16,
 }
 
-#[derive(Clone, Copy)]
-pub enum Found {
-    At(Pair),
-    Nothing,
-}
-
-pub fn clocks(pair: Pair) -> u32
-    ensures { result ≡ clocks pair }
-{
-    pair.factor as u32 * pair.divider as u32
+impl Pair {
+    pub fn clocks(self) -> u32
+        ensures { result ≡ clocks self }
+    {
+        u32::from(self.factor) * u32::from(self.divider)
+    }
 }

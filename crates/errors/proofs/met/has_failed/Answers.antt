@@ -4,12 +4,12 @@ use mathlib.Core.Path.{sym, ◌∙◌}
 use Rattle.errors.proofs.MetLaws.{failed_told}
 use Rattle.errors.proofs.met.has_failed.Goals as goal
 
-pub returns-in-Fine : goal.returns-in-Fine
-returns-in-Fine c =
+pub returns-in-None : goal.returns-in-None
+returns-in-None c =
     let a = c.args in
-    rw c.unchecked.ensures (failed_told a.chip a.nack a.error a.value a.extra (search rules) _ (sym c.in-Fine.is ∙ c.error_of.ensures))
+    rw c.unchecked.ensures (failed_told a.chip a.nack a.error a.value a.extra (search rules) _ (sym c.in-None.is ∙ c.error_of.ensures))
 
-pub returns-in-Failed : goal.returns-in-Failed
-returns-in-Failed c =
+pub returns-in-Some : goal.returns-in-Some
+returns-in-Some c =
     let a = c.args in
-    rw c.error_number.ensures (failed_told a.chip a.nack a.error a.value a.extra (search rules) _ (sym c.in-Failed.is ∙ c.error_of.ensures))
+    rw c.from.ensures (failed_told a.chip a.nack a.error a.value a.extra (search rules) _ (sym c.in-Some.is ∙ c.error_of.ensures))

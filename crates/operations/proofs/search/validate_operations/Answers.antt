@@ -30,7 +30,7 @@ runs-preserved c =
       | else-list-at-lt3-2+then-not-goes_on w ↦ inr (w.if-list-at-lt3-2.false, turns_by k o.result o.ensures (sym w.goes_on.ensures ∙ w.if-not-goes_on.true))
     ] in
     run_ends _ _ _ _ _ _ _ o.result _ k o.ensures (sym c.is_empty_read.ensures ∙ c.if-is_empty_read.false) c.if-total-gt65535.false left_by _ _
-    c.direction_of.ensures c.passed-tally.ensures
+    c.from.ensures c.passed-tally.ensures
 
 pub returns-then-list-at : goal.returns-then-list-at
 returns-then-list-at c = at_end _ _ _ _ _ c.runs.invariant c.if-list-at.true

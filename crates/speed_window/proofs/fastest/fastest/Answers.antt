@@ -1,16 +1,7 @@
 -- `speed_window::fastest::fastest` meets its contract.
-use native.Mathlib.Omega.{arith}
 use mathlib.Core.Path.{sym, ◌∙◌}
-use Rattle.speed_window.proofs.ProductLaws.{long_words_fit}
-use Rattle.speed_window.proofs.FormulaLaws.{step_pos, too_large, right_fastest, wrong_fastest}
+use Rattle.speed_window.proofs.FormulaLaws.{too_large, right_fastest, wrong_fastest}
 use Rattle.speed_window.proofs.fastest.fastest.Goals as goal
-
-pub overflow_mul-step : goal.overflow_mul-step
-overflow_mul-step c = record { fits = long_words_fit _ _ (omega arith) (omega arith) }
-
-pub divider-least-requires : goal.divider-least-requires
-divider-least-requires c =
-    let a = c.args in rw c.within.ensures (step_pos a.factor a.floor a.top a.input a.lowest a.highest c.requires.factor_nonzero c.requires.top_nonzero)
 
 pub returns-then-least-gt4095 : goal.returns-then-least-gt4095
 returns-then-least-gt4095 c =
