@@ -1,18 +1,18 @@
 -- What is left of a list: whether its operations are good, and what that has to do with the list's fault.
 -- Assumes nothing.
-use Prim.Native.Nat.{ℕ, zero, suc, ◌+◌, ◌-◌, ◌≤◌, ◌<◌}
+use Prim.Native.Nat.{ℕ, suc, ◌+◌, ◌-◌, ◌≤◌, ◌<◌}
 use mathlib.Core.Path.{◌≡◌, refl, sym, ◌∙◌}
-use mathlib.Core.Bool.{Bool, true, false, cond, ◌&&◌, true≢false}
+use mathlib.Core.Bool.{Bool, true, false, cond, true≢false}
 use mathlib.Core.List.{List, [], ◌∷◌}
 use mathlib.Core.Option.{none, some}
 use native.Mathlib.Numerals.{add-one, add-two, add-three}
 use native.Mathlib.Omega.{arith}
-use borrow.Author.Tests.{lt-ltb, le-ltb, ltb-true, ltb-false, ne_eqb}
-use lib.Dec.{ltb, eqb}
+use borrow.Author.Tests.{lt-ltb, le-ltb, ltb-true, ltb-false}
+use lib.Dec.{ltb}
 use lib.ListN.{length, get_or, drop, drop_of_length-le, length-drop}
 use lib.Seq.{drop-cons}
 use Rattle.access.specs.declared.ending.Error.TheVariants.{Overrun, BufferTooLong, InvalidArgument}
-use Rattle.operations.specs.Operations.{is_read, direction_of, empty_read, word_of, operation_of, operation_at, operations_of}
+use Rattle.operations.specs.Operations.{empty_read, word_of, operation_of, operation_at, operations_of}
 use Rattle.operations.specs.Runs.{written_in, read_in, written_sum, read_sum}
 use Rattle.operations.specs.Search.{fault_from}
 use Rattle.operations.proofs.SumLaws.{span_of, each_span, both_sums}
@@ -33,19 +33,6 @@ short_fine (a ∷ []) p h = refl
 short_fine (a ∷ b ∷ []) p h = refl
 short_fine (a ∷ b ∷ c ∷ l) p h = absurd (omega arith)
 
--- an empty read is shorter than its direction's number
-short_empty : (d n : ℕ) → d ≤ 1 → n < d → is_read (direction_of d) && eqb n 0 ≡ true
-short_empty zero n p h = absurd (omega arith)
-short_empty (suc zero) zero p h = refl
-short_empty (suc zero) (suc n) p h = absurd (omega arith)
-short_empty (suc (suc d)) n p h = absurd (omega arith)
-
-long_full : (d n : ℕ) → d ≤ 1 → d ≤ n → is_read (direction_of d) && eqb n 0 ≡ false
-long_full zero n p h = refl
-long_full (suc zero) zero p h = absurd (omega arith)
-long_full (suc zero) (suc n) p h = ne_eqb (suc n) 0 (λ e. absurd (omega arith))
-long_full (suc (suc d)) n p h = absurd (omega arith)
-
 module _ (l : List ℕ) (at : ℕ) where
   pub fine_end : length l ≤ at → fine (drop at l) ≡ true
   unfolding fine
@@ -62,12 +49,12 @@ module _ (l : List ℕ) (at : ℕ) where
     pub flaw_direction : 1 < get_or l at 0 → fine (drop at l) ≡ false
     flaw_direction p = fine_first ∙ rw (lt-ltb 1 (get_or l at 0) p)
 
-    module _ (d n : ℕ) (ed : get_or l at 0 ≡ d) (en : n ≡ word_of (get_or l (at + 1) 0) (get_or l (at + 2) 0)) (p : d ≤ 1) where
-      pub flaw_empty : n < d → fine (drop at l) ≡ false
-      flaw_empty q = fine_first ∙ rw (ed, le-ltb 1 d p, ← en) (rw (short_empty d n p q))
+    module _ (p : get_or l at 0 ≤ 1) where
+      pub flaw_empty : empty_read (operation_at l at) ≡ true → fine (drop at l) ≡ false
+      flaw_empty q = fine_first ∙ rw (le-ltb 1 (get_or l at 0) p, q)
 
-      pub fine_next : d ≤ n → fine (drop (at + 3) l) ≡ fine (drop at l)
-      fine_next q = sym (fine_first ∙ rw (ed, le-ltb 1 d p, ← en) (rw (long_full d n p q)))
+      pub fine_next : empty_read (operation_at l at) ≡ false → fine (drop (at + 3) l) ≡ fine (drop at l)
+      fine_next q = sym (fine_first ∙ rw (le-ltb 1 (get_or l at 0) p, q))
 
 -- where what is left is good its direction is 0 or 1
 pub fine_direction : (l : List ℕ) (at : ℕ) → at + 3 ≤ length l → fine (drop at l) ≡ true → get_or l at 0 ≤ 1

@@ -1,173 +1,160 @@
 -- What holds along a run, at the place behind it, and where the runs are passed one by one.
 -- Assumes nothing.
-use Prim.Native.Nat.{ℕ, zero, suc, ◌+◌, ◌*◌, ◌-◌, ◌≤◌, ◌<◌}
+use Prim.Native.Nat.{ℕ, suc, ◌+◌, ◌*◌, ◌-◌, ◌≤◌, ◌<◌}
 use mathlib.Core.Path.{◌≡◌, refl, sym, ap, ◌∙◌, subst}
-use mathlib.Core.Bool.{Bool, true, false, not, true≢false}
+use mathlib.Core.Bool.{Bool, true, false, not, ◌&&◌, true≢false}
 use mathlib.Core.List.{List, [], ◌∷◌}
 use mathlib.Core.Logic.{◌⊎◌, ⊎_elim}
-use native.Mathlib.Nat.{add-zero}
 use native.Mathlib.Omega.{arith}
-use borrow.Author.Tests.{leb-true, leb-false}
+use borrow.Author.Tests.{leb-true, leb-false, le-leb}
 use lib.Dec.{leb}
 use lib.ListN.{length, get_or, drop}
+use Rattle.std.specs.Prelude.{None}
+use Rattle.access.proofs.Choice.{first_true, second_true}
 use Rattle.operations.specs.declared.operation.Direction.{Direction}
 use Rattle.operations.specs.declared.operation.Direction.TheVariants.{Write, Read}
-use Rattle.operations.specs.declared.search.FoundRun.TheVariants.{Nothing}
-use Rattle.operations.specs.Operations.{direction_of, word_of, operation_at, operations_of}
-use Rattle.operations.specs.Runs.{span, written_in, read_in, written_sum, read_sum, runs_from, runs_of, is_empty, run_from, run_at}
+use Rattle.operations.specs.declared.operation.Operation.{Operation}
+use Rattle.operations.specs.Operations.{is_read, empty_read, word_of, operation_at, operations_of}
+use Rattle.operations.specs.Runs.{span, same, written_in, read_in, written_sum, read_sum, runs_from, runs_of, is_empty, run_from, run_at}
 use Rattle.operations.specs.Search.{goes_on}
 use Rattle.operations.proofs.ListLaws.{no_operation, operation_first}
-use Rattle.operations.proofs.RunLaws.{goes_by_number, stops_by_number, turned, opens, joins, ends_by_turn, ends_at_end, none_follows, some_follows}
+use Rattle.operations.proofs.RunLaws.{opens, joins, ends_by_turn, ends_at_end, none_follows, some_follows}
 use Rattle.operations.proofs.SumLaws.{span_of, each_span, written_runs_lem, read_runs}
 use Rattle.list_run.specs.declared.runs.Place.{Place}
-use Rattle.list_run.specs.Passing.{fine, runs_after, nowhere, start_place, added_to, written_to, read_to, Listed, Reached, Starts, Opens, Next, Passes, NextOne, PassesOne, Ahead, Skips, Between, Rests}
+use Rattle.list_run.specs.Passing.{fine, runs_after, direction_at, start_place, counted, added_to, Listed, Reached, Starts, Opens, Next, NextOne, Ahead, Between, Summed}
 use Rattle.list_run.proofs.FineLaws.{fine_end, fine_part, fine_next, fine_direction, flaw_direction, flaw_empty}
 
 -- ---- within a run
 
--- the run that begins at p, of direction d, has come to `sum` bytes
-pub record Along (l : List ℕ) (p : Place) (d at sum : ℕ) : Type 0 where
+same_is : (x y : Direction) → same x y ≡ true → x ≡ y
+same_is Write Write e = refl
+same_is Read Read e = refl
+same_is Write Read e = absurd (true≢false (sym e))
+same_is Read Write e = absurd (true≢false (sym e))
+
+-- the run that begins at p, of direction x, has come to `sum` bytes
+pub record Along (l : List ℕ) (p : Place) (x : Direction) (at sum : ℕ) : Type 0 where
   pub inside : at + 3 ≤ length l
   pub since : p.at ≤ at
   pub small : sum + 65535 * p.at ≤ 65535 * at
-  pub first : get_or l p.at 0 ≡ d
-  pub direction : get_or l at 0 ≡ d
-  pub known : d ≤ 1
+  pub first : x ≡ direction_at l p.at
+  pub known : get_or l at 0 ≤ 1
+  pub direction : x ≡ direction_at l at
   pub sound : fine (drop at l) ≡ fine (drop p.at l)
-  pub runs : runs_from (direction_of d) sum (operations_of (drop at l)) ≡ runs_after l p.at
+  pub runs : runs_from x sum (operations_of (drop at l)) ≡ runs_after l p.at
 
--- whether the next operation goes on with the run, by its number
-pub goes_along : {l : List ℕ} {from : Place} {d at n : ℕ} → Along l from d at n → (x : Direction) → x ≡ direction_of d → goes_on l (at + 3) x ≡ true → get_or l (at + 3) 0 ≡ d
-goes_along {l} {from} {d} {at} a x e q = goes_by_number l (at + 3) d x a.known e q
-
-pub turns_along : {l : List ℕ} {from : Place} {d at n : ℕ} → Along l from d at n → (x : Direction) → x ≡ direction_of d → goes_on l (at + 3) x ≡ false → get_or l (at + 3) 0 ≡ d → ⊥
-turns_along {l} {from} {d} {at} a x e q = stops_by_number l (at + 3) d x a.known e q
-
-pub run_begins : (l : List ℕ) (last : ℕ) (p : Place) (d : ℕ) → Starts l last p → get_or l p.at 0 ≡ d → d ≤ 1 → Along l p d p.at 0
-run_begins l last p d s e q =
+pub run_begins : (l : List ℕ) (last : ℕ) (p : Place) (x : Direction) → Opens l last p x → Along l p x p.at 0
+run_begins l last p x o =
     record {
-      inside = omega (arith, s.whole, s.here);
+      inside = h;
       since = omega arith;
       small = omega arith;
-      first = e;
-      direction = e;
-      known = q;
+      first = o.first;
+      known = o.known;
+      direction = o.first;
       sound = refl;
       runs = sym opened;
     }
   where
     h : p.at + 3 ≤ length l
-    h = omega (arith, s.whole, s.here)
+    h = omega (arith, o.start.whole, o.start.here)
 
-    opened : runs_after l p.at ≡ runs_from (direction_of d) 0 (operations_of (drop p.at l))
+    opened : runs_after l p.at ≡ runs_from x 0 (operations_of (drop p.at l))
     opened =
         ap runs_of (operation_first l p.at h) ∙ opens (operation_at l p.at) (operations_of (drop (p.at + 3) l))
-        ∙ (λ i. runs_from (direction_of (e i)) 0 (sym (operation_first l p.at h) i))
+        ∙ (λ i. runs_from (sym o.first i) 0 (sym (operation_first l p.at h) i))
 
 both : (d : Direction) (w r n : ℕ) → w + written_in (span d n) + (r + read_in (span d n)) ≡ w + r + n
 both Write w r n = omega arith
 both Read w r n = omega arith
 
+abbrev operation : Direction → ℕ → Operation
+operation x n = record { direction = x; length = n }
+
 -- an operation that is good is passed
-module _ (l : List ℕ) (p : Place) (d at sum n : ℕ) (a : Along l p d at sum) (en : n ≡ word_of (get_or l (at + 1) 0) (get_or l (at + 2) 0)) where
-  pub run_flawed : n < d → fine (drop p.at l) ≡ false
-  run_flawed q = sym a.sound ∙ flaw_empty l at a.inside d n a.direction en a.known q
+module _ (l : List ℕ) (p : Place) (x : Direction) (at sum n : ℕ) (a : Along l p x at sum) (en : n ≡ word_of (get_or l (at + 1) 0) (get_or l (at + 2) 0)) where
+  the_operation : operation x n ≡ operation_at l at
+  the_operation = λ i. operation (a.direction i) (en i)
 
-  module _ (long : d ≤ n) (few : n ≤ 65535) where
+  pub run_flawed : empty_read (operation x n) ≡ true → fine (drop p.at l) ≡ false
+  run_flawed q = sym a.sound ∙ flaw_empty l at a.inside a.known (ap empty_read (sym the_operation) ∙ q)
+
+  module _ (full : empty_read (operation x n) ≡ false) (few : n ≤ 65535) where
     sound_behind : fine (drop (at + 3) l) ≡ fine (drop p.at l)
-    sound_behind = fine_next l at a.inside d n a.direction en a.known long ∙ a.sound
+    sound_behind = fine_next l at a.inside a.known (ap empty_read (sym the_operation) ∙ full) ∙ a.sound
 
-    runs_behind : runs_from (direction_of d) (sum + n) (operations_of (drop (at + 3) l)) ≡ runs_after l p.at
+    runs_behind : runs_from x (sum + n) (operations_of (drop (at + 3) l)) ≡ runs_after l p.at
     runs_behind =
         sym (
-        (λ i. runs_from (direction_of (sym a.direction i)) sum (operation_first l at a.inside i))
+        (λ i. runs_from (a.direction i) sum (operation_first l at a.inside i))
         ∙ joins sum (operation_at l at) (operations_of (drop (at + 3) l))
-        ∙ (λ i. runs_from (direction_of (a.direction i)) (sum + sym en i) (operations_of (drop (at + 3) l))))
+        ∙ (λ i. runs_from (sym a.direction i) (sum + sym en i) (operations_of (drop (at + 3) l))))
         ∙ a.runs
 
-    pub run_goes_on : at + 3 + 3 ≤ length l → get_or l (at + 3) 0 ≡ d → Along l p d (at + 3) (sum + n)
+    pub run_goes_on : at + 3 + 3 ≤ length l → goes_on l (at + 3) x ≡ true → Along l p x (at + 3) (sum + n)
     run_goes_on h e =
         record {
           inside = h;
           since = omega (arith, a.since);
           small = omega (arith, a.small);
           first = a.first;
-          direction = e;
-          known = a.known;
+          known = leb-true (get_or l (at + 3) 0) 1 (first_true (leb (get_or l (at + 3) 0) 1) (same x (direction_at l (at + 3))) e);
+          direction = same_is x (direction_at l (at + 3)) (second_true (leb (get_or l (at + 3) 0) 1) (same x (direction_at l (at + 3))) e);
           sound = sound_behind;
           runs = runs_behind;
         }
 
-    module _ (over : (length l < at + 3 + 3) ⊎ ((at + 3 + 3 ≤ length l) × (get_or l (at + 3) 0 ≡ d → ⊥))) where
-      ended : fine (drop (at + 3) l) ≡ true → runs_from (direction_of d) (sum + n) (operations_of (drop (at + 3) l)) ≡ span (direction_of d) (sum + n) ∷ runs_after l (at + 3)
+    module _ (over : (length l < at + 3 + 3) ⊎ ((at + 3 + 3 ≤ length l) × (goes_on l (at + 3) x ≡ false))) where
+      ended : fine (drop (at + 3) l) ≡ true → runs_from x (sum + n) (operations_of (drop (at + 3) l)) ≡ span x (sum + n) ∷ runs_after l (at + 3)
       ended z = ⊎_elim at_last at_turn over
         where
-          at_last : length l < at + 3 + 3 → runs_from (direction_of d) (sum + n) (operations_of (drop (at + 3) l)) ≡ span (direction_of d) (sum + n) ∷ runs_after l (at + 3)
-          at_last h = rw (no_operation l (at + 3) (omega arith)) (ends_at_end (direction_of d) (sum + n))
+          at_last : length l < at + 3 + 3 → runs_from x (sum + n) (operations_of (drop (at + 3) l)) ≡ span x (sum + n) ∷ runs_after l (at + 3)
+          at_last h = rw (no_operation l (at + 3) (omega arith)) (ends_at_end x (sum + n))
 
-          at_turn : (at + 3 + 3 ≤ length l) × (get_or l (at + 3) 0 ≡ d → ⊥)
-              → runs_from (direction_of d) (sum + n) (operations_of (drop (at + 3) l)) ≡ span (direction_of d) (sum + n) ∷ runs_after l (at + 3)
+          turned : (h : at + 3 + 3 ≤ length l) → goes_on l (at + 3) x ≡ false → same x (direction_at l (at + 3)) ≡ false
+          turned h ne =
+              ap (λ (b : Bool). b && same x (direction_at l (at + 3))) (sym (le-leb (get_or l (at + 3) 0) 1 (fine_direction l (at + 3) h z))) ∙ ne
+
+          at_turn : (at + 3 + 3 ≤ length l) × (goes_on l (at + 3) x ≡ false)
+              → runs_from x (sum + n) (operations_of (drop (at + 3) l)) ≡ span x (sum + n) ∷ runs_after l (at + 3)
           at_turn (h, ne) =
               rw (operation_first l (at + 3) h)
-              (ends_by_turn (direction_of d) (sum + n) (operation_at l (at + 3)) (operations_of (drop (at + 3 + 3) l)) (turned d (get_or l (at + 3) 0) a.known (fine_direction l (at + 3) h z) ne))
+              (ends_by_turn x (sum + n) (operation_at l (at + 3)) (operations_of (drop (at + 3 + 3) l)) (turned h ne))
 
-      pub run_ends : (last : ℕ) (q : Place) → Starts l last p → q ≡ added_to p d (at + 3) (sum + n) → Passes l p q
+      pub run_ends : (last : ℕ) (q : Place) → Starts l last p → q ≡ added_to p x (at + 3) (sum + n) → Next l p q
       run_ends last q s e =
           rw e
           (record {
-            yes =
-                λ _.
-                record {
-                  onward = omega (arith, a.since);
-                  within = omega (arith, a.inside);
-                  small = omega (arith, both (direction_of d) p.written p.read (sum + n), a.small, s.small);
-                  reading = rw a.first;
-                  written = rw a.first;
-                  read = rw a.first;
-                  sound = sound_behind;
-                  runs = λ z. rw a.first (sym runs_behind ∙ ended (sound_behind ∙ z));
-                };
-            no = λ x. absurd (true≢false x);
+            onward = omega (arith, a.since);
+            within = omega (arith, a.inside);
+            small = omega (arith, both x p.written p.read (sum + n), a.small, s.small);
+            reading = ap is_read a.first;
+            written = ap (λ (y : Direction). p.written + written_in (span y (sum + n))) a.first;
+            read = ap (λ (y : Direction). p.read + read_in (span y (sum + n))) a.first;
+            sound = sound_behind;
+            runs = λ z. sym runs_behind ∙ ended (sound_behind ∙ z) ∙ ap (λ (y : Direction). span y (sum + n) ∷ runs_after l (at + 3)) a.first;
           })
 
-pub count_begins : (l : List ℕ) (last : ℕ) (p : Place) (d m : ℕ) → Opens l last p d → d ≤ 1 → Along l p d p.at (m - m)
-count_begins l last p d m o q = subst (λ (x : ℕ). Along l p d p.at x) (omega arith) (run_begins l last p d o.start o.first q)
+-- the same by the bytes of the direction that are counted up to there
+pub counted_small : (d : Direction) (p : Place) → counted d p ≤ p.written + p.read
+counted_small Write p = omega arith
+counted_small Read p = omega arith
 
--- the bytes of the direction up to there are counted, of which there were m before the run
-module _ (l : List ℕ) (p : Place) (d at m c n : ℕ) (a : Along l p d at (c - m)) (more : m ≤ c) (en : n ≡ word_of (get_or l (at + 1) 0) (get_or l (at + 2) 0)) (long : d ≤ n) (few : n ≤ 65535) where
-  grown : c - m + n ≡ c + n - m
+pub count_begins : (l : List ℕ) (last : ℕ) (p : Place) (x : Direction) (c : ℕ) → c ≡ counted x p → Opens l last p x → Along l p x p.at (c - counted x p)
+count_begins l last p x c e o = subst (λ (n : ℕ). Along l p x p.at n) (omega (arith, e)) (run_begins l last p x o)
+
+module _ (l : List ℕ) (p : Place) (x : Direction) (at c n : ℕ) (a : Along l p x at (c - counted x p)) (more : counted x p ≤ c) (en : n ≡ word_of (get_or l (at + 1) 0) (get_or l (at + 2) 0))
+    (full : empty_read (operation x n) ≡ false) (few : n ≤ 65535) where
+  grown : c - counted x p + n ≡ c + n - counted x p
   grown = omega arith
 
-  pub count_goes_on : at + 3 + 3 ≤ length l → get_or l (at + 3) 0 ≡ d → Along l p d (at + 3) (c + n - m)
-  count_goes_on h e = subst (λ (x : ℕ). Along l p d (at + 3) x) grown (run_goes_on l p d at (c - m) n a en long few h e)
+  pub count_goes_on : at + 3 + 3 ≤ length l → goes_on l (at + 3) x ≡ true → Along l p x (at + 3) (c + n - counted x p)
+  count_goes_on h e = subst (λ (m : ℕ). Along l p x (at + 3) m) grown (run_goes_on l p x at (c - counted x p) n a en full few h e)
 
-  pub count_ends : (length l < at + 3 + 3) ⊎ ((at + 3 + 3 ≤ length l) × (get_or l (at + 3) 0 ≡ d → ⊥)) → (last : ℕ) (q : Place) → Starts l last p → q ≡ added_to p d (at + 3) (c + n - m) → Passes l p q
-  count_ends over last q s e = run_ends l p d at (c - m) n a en long few over last q s (e ∙ ap (added_to p d (at + 3)) (sym grown))
-
-pub writes_end : (p : Place) (at n : ℕ) → p.written ≤ n → written_to p at n ≡ added_to p 0 at (n - p.written)
-writes_end p at n h = λ i. record { ok = true; at = at; written = up i; read = sym (add-zero p.read) i; reading = false; sum = n - p.written }
-  where
-    up : n ≡ p.written + (n - p.written)
-    up = omega arith
-
-pub reads_end : (p : Place) (at n : ℕ) → p.read ≤ n → read_to p at n ≡ added_to p 1 at (n - p.read)
-reads_end p at n h = λ i. record { ok = true; at = at; written = sym (add-zero p.written) i; read = up i; reading = true; sum = n - p.read }
-  where
-    up : n ≡ p.read + (n - p.read)
-    up = omega arith
-
-pub passes_not : (l : List ℕ) (p q : Place) → q ≡ nowhere → fine (drop p.at l) ≡ false → Passes l p q
-passes_not l p q e f = rw e (record { yes = λ x. absurd (true≢false (sym x)); no = λ _. f })
+  pub count_ends : (length l < at + 3 + 3) ⊎ ((at + 3 + 3 ≤ length l) × (goes_on l (at + 3) x ≡ false)) → (last : ℕ) (q : Place) → Starts l last p → q ≡ added_to p x (at + 3) (c + n - counted x p) → Next l p q
+  count_ends over last q s e = run_ends l p x at (c - counted x p) n a en full few over last q s (e ∙ ap (added_to p x (at + 3)) (sym grown))
 
 -- ---- run by run
-
-pub is_false : (b : Bool) → not b ≡ true → b ≡ false
-is_false false e = refl
-is_false true e = sym e
-
-pub is_true : (b : Bool) → not b ≡ false → b ≡ true
-is_true true e = refl
-is_true false e = sym e
 
 module _ (l : List ℕ) (p q : Place) (x : Next l p q) (good : fine (drop p.at l) ≡ true) where
   pub written_next : q.written + written_sum (runs_after l q.at) ≡ p.written + written_sum (runs_after l p.at)
@@ -212,35 +199,32 @@ ahead_start l last k p s e =
     })
 
 module _ (l : List ℕ) (last k ahead : ℕ) (p : Place) (a : Ahead l last k ahead p) where
-  pub skips_none : (r : Place) → r ≡ nowhere → (fine l ≡ true → run_at (runs_of (operations_of l)) k ≡ Nothing) → Skips l last k r
-  skips_none r e f = rw e (record { yes = λ x. absurd (true≢false (sym x)); no = λ _. f })
-
   -- no run is left
-  pub ahead_over : last < p.at → fine l ≡ true → run_at (runs_of (operations_of l)) k ≡ Nothing
+  pub ahead_over : last < p.at → fine l ≡ true → run_at (runs_of (operations_of l)) k ≡ None
   unfolding run_from
   ahead_over h z = sym (a.run z) ∙ rw (no_runs l last p.at a.place.whole h)
 
-  pub ahead_flawed : (q : Place) → Passes l p q → q.ok ≡ false → fine l ≡ true → run_at (runs_of (operations_of l)) k ≡ Nothing
-  ahead_flawed q x e z = absurd (true≢false (sym z ∙ sym a.sound ∙ x.no e))
+  pub ahead_flawed : fine (drop p.at l) ≡ false → fine l ≡ true → run_at (runs_of (operations_of l)) k ≡ None
+  ahead_flawed f z = absurd (true≢false (sym z ∙ sym a.sound ∙ f))
 
--- one run less is ahead
-pub ahead_next : (l : List ℕ) (last k ahead : ℕ) (p : Place) → 0 < ahead → Ahead l last k ahead p → p.at ≤ last → (q : Place) → Next l p q → Ahead l last k (ahead - 1) q
-ahead_next l last k zero p n a h q x = absurd (omega arith)
-ahead_next l last k (suc ahead) p n a h q x =
-    subst (λ (j : ℕ). Ahead l last k j q) less
-    (record {
+-- one run more is passed
+pub ahead_next : (l : List ℕ) (last k passed : ℕ) (p : Place) → passed < k → Ahead l last k (k - passed) p → p.at ≤ last → (q : Place) → Next l p q → Ahead l last k (k - (passed + 1)) q
+ahead_next l last k passed p n a h q x =
+    record {
       place = reached_next l last p q (starts_at l last p a.place h) x;
       sound = x.sound ∙ a.sound;
-      run = λ z. run_next l p q x (a.sound ∙ z) ahead ∙ a.run z;
+      run =
+          λ z.
+          run_next l p q x (a.sound ∙ z) (k - (passed + 1)) ∙ ap (run_from p.written p.read (runs_after l p.at)) less ∙ a.run z;
       written = λ z. written_next l p q x (a.sound ∙ z) ∙ a.written z;
       read = λ z. read_next l p q x (a.sound ∙ z) ∙ a.read z;
-    })
+    }
   where
-    less : ahead ≡ suc ahead - 1
+    less : suc (k - (passed + 1)) ≡ k - passed
     less = omega arith
 
-pub skips_to : (l : List ℕ) (last k ahead : ℕ) (p : Place) → p.ok ≡ true → ahead ≤ 0 → Ahead l last k ahead p → Skips l last k p
-skips_to l last k ahead p o h a = record { yes = λ _. subst (λ (j : ℕ). Ahead l last k j p) (omega arith) a; no = λ x. absurd (true≢false (sym o ∙ x)) }
+pub none_ahead : (l : List ℕ) (last k passed : ℕ) (p : Place) → k ≤ passed → Ahead l last k (k - passed) p → Ahead l last k 0 p
+none_ahead l last k passed p h = subst (λ (j : ℕ). Ahead l last k j p) (omega arith)
 
 -- ---- the operations behind
 
@@ -256,56 +240,37 @@ module _ (l : List ℕ) (at : ℕ) (h : at + 3 ≤ length l) where
       read_runs (operations_of (drop at l)) ∙ ap (λ os. read_sum (each_span os)) (operation_first l at h)
       ∙ ap (λ (x : ℕ). read_in (span_of (operation_at l at)) + x) (sym (read_runs (operations_of (drop (at + 3) l))))
 
-module _ (l : List ℕ) (last : ℕ) (p : Place) (s : Starts l last p) (d n : ℕ) (ed : get_or l p.at 0 ≡ d) (en : n ≡ word_of (get_or l (p.at + 1) 0) (get_or l (p.at + 2) 0)) where
+module _ (l : List ℕ) (last : ℕ) (p : Place) (s : Starts l last p) where
   h : p.at + 3 ≤ length l
   h = omega (arith, s.whole, s.here)
 
-  written_by : written_in (span_of (operation_at l p.at)) ≡ written_in (span (direction_of d) n)
-  written_by = rw (ed, ← en)
+  pub one_unknown : 1 < get_or l p.at 0 → fine (drop p.at l) ≡ false
+  one_unknown large = flaw_direction l p.at h large
 
-  read_by : read_in (span_of (operation_at l p.at)) ≡ read_in (span (direction_of d) n)
-  read_by = rw (ed, ← en)
+  module _ (x : Direction) (n : ℕ) (known : get_or l p.at 0 ≤ 1) (ex : x ≡ direction_at l p.at) (en : n ≡ word_of (get_or l (p.at + 1) 0) (get_or l (p.at + 2) 0)) where
+    passed_is : operation x n ≡ operation_at l p.at
+    passed_is = λ i. operation (ex i) (en i)
 
-  pub one_passed : d ≤ 1 → d ≤ n → n ≤ 65535 → PassesOne l p (added_to p d (p.at + 3) n)
-  one_passed known long few =
-      record {
-        yes =
-            λ _.
-            record {
-              onward = omega arith;
-              within = h;
-              small = omega (arith, both (direction_of d) p.written p.read n, s.small);
-              sound = fine_next l p.at h d n ed en known long;
-              written = omega (arith, written_first l p.at h, written_by);
-              read = omega (arith, read_first l p.at h, read_by);
-            };
-        no = λ x. absurd (true≢false x);
-      }
+    written_by : written_in (span_of (operation_at l p.at)) ≡ written_in (span x n)
+    written_by = ap (λ (y : Operation). written_in (span_of y)) (sym passed_is)
 
-  pub one_flawed : (q : Place) → q ≡ nowhere → d ≤ 1 → n < d → PassesOne l p q
-  one_flawed q e known short = rw e (record { yes = λ x. absurd (true≢false (sym x)); no = λ _. flaw_empty l p.at h d n ed en known short })
+    read_by : read_in (span_of (operation_at l p.at)) ≡ read_in (span x n)
+    read_by = ap (λ (y : Operation). read_in (span_of y)) (sym passed_is)
 
-pub one_unknown : (l : List ℕ) (last : ℕ) (p q : Place) → Starts l last p → q ≡ nowhere → 1 < get_or l p.at 0 → PassesOne l p q
-one_unknown l last p q s e large =
-    rw e (record { yes = λ x. absurd (true≢false (sym x)); no = λ _. flaw_direction l p.at (omega (arith, s.whole, s.here)) large })
+    pub one_flawed : empty_read (operation x n) ≡ true → fine (drop p.at l) ≡ false
+    one_flawed q = flaw_empty l p.at h known (ap empty_read (sym passed_is) ∙ q)
 
--- the fields of a passed operation, in which the sum is of no use
-pub same_sums : (l : List ℕ) (p q t : Place) → q.ok ≡ t.ok → q.at ≡ t.at → q.written ≡ t.written → q.read ≡ t.read → PassesOne l p t → PassesOne l p q
-same_sums l p q t eo ea ew er x =
-    record {
-      yes =
-          λ y.
-          let z = x.yes (sym eo ∙ y) in
-          record {
-            onward = rw ea z.onward;
-            within = rw ea z.within;
-            small = rw (ea, ew, er) z.small;
-            sound = rw ea z.sound;
-            written = rw (ea, ew) z.written;
-            read = rw (ea, er) z.read;
-          };
-      no = λ y. x.no (sym eo ∙ y);
-    }
+    pub one_passed : empty_read (operation x n) ≡ false → n ≤ 65535 → (m : ℕ) → m ≡ n → (q : Place) → q ≡ added_to p x (p.at + 3) m → NextOne l p q
+    one_passed full few m em q e =
+        rw (e, em)
+        (record {
+          onward = omega arith;
+          within = h;
+          small = omega (arith, both x p.written p.read n, s.small);
+          sound = fine_next l p.at h known (ap empty_read (sym passed_is) ∙ full);
+          written = omega (arith, written_first l p.at h, written_by);
+          read = omega (arith, read_first l p.at h, read_by);
+        })
 
 pub between_start : (l : List ℕ) (last : ℕ) (p : Place) → Reached l last p → Between l last p p
 between_start l last p r = record { place = r; sound = refl; written = λ _. refl; read = λ _. refl }
@@ -320,26 +285,21 @@ module _ (l : List ℕ) (last : ℕ) (p q : Place) (b : Between l last p q) wher
         read = λ z. x.read ∙ b.read z;
       }
 
-  pub rests_flawed : (t r : Place) → r ≡ nowhere → PassesOne l q t → t.ok ≡ false → Rests l p r
-  rests_flawed t r e x o = rw e (record { yes = λ y. absurd (true≢false (sym y)); no = λ _. sym b.sound ∙ x.no o })
+  pub rests_flawed : fine (drop q.at l) ≡ false → fine (drop p.at l) ≡ false
+  rests_flawed f = sym b.sound ∙ f
 
-  pub rests_part : (r : Place) → r ≡ nowhere → last < q.at → (q.at ≡ length l → ⊥) → Rests l p r
-  rests_part r e h n =
+  pub rests_part : last < q.at → (q.at ≡ length l → ⊥) → fine (drop p.at l) ≡ false
+  rests_part h n =
       let lt : q.at < length l = omega (arith, b.place.within, n) in
-      rw e (record { yes = λ y. absurd (true≢false (sym y)); no = λ _. sym b.sound ∙ fine_part l q.at lt (omega (arith, b.place.whole)) })
+      sym b.sound ∙ fine_part l q.at lt (omega (arith, b.place.whole))
 
-  pub rests_at : q.ok ≡ true → last < q.at → q.at ≡ length l → Rests l p q
-  rests_at o h e =
+  pub rests_at : last < q.at → q.at ≡ length l → Summed l p q
+  rests_at h e =
       let good : fine (drop p.at l) ≡ true = sym b.sound ∙ fine_end l q.at (omega arith) in
       let over : runs_after l q.at ≡ [] = no_runs l last q.at b.place.whole h in
       record {
-        yes =
-            λ _.
-            record {
-              sound = good;
-              small = omega (arith, b.place.small, b.place.few);
-              written = omega (arith, b.written good, ap written_sum over);
-              read = omega (arith, b.read good, ap read_sum over);
-            };
-        no = λ y. absurd (true≢false (sym o ∙ y));
+        sound = good;
+        small = omega (arith, b.place.small, b.place.few);
+        written = omega (arith, b.written good, ap written_sum over);
+        read = omega (arith, b.read good, ap read_sum over);
       }

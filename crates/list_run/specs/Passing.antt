@@ -1,7 +1,6 @@
 -- What is known of each place of a list, run by run.
-use Rattle.std.specs.Prelude.{ℕ, ◌+◌, ◌*◌, ◌-◌, ◌≤◌, ◌<◌, ◌≡◌, Bool, true, false, cond, List, [], ◌∷◌, ltb, length, get_or, drop}
+use Rattle.std.specs.Prelude.{ℕ, ◌+◌, ◌*◌, ◌≤◌, ◌<◌, ◌≡◌, Bool, true, false, cond, List, [], ◌∷◌, ltb, length, get_or, drop, Option, None, MatchOption}
 use Rattle.operations.specs.declared.operation.Direction.{Direction}
-use Rattle.operations.specs.declared.search.FoundRun.TheVariants.{Nothing}
 use Rattle.operations.specs.Operations.{is_read, direction_of, operation_of, empty_read, operations_of}
 use Rattle.operations.specs.Runs.{Span, span, runs_of, written_in, read_in, written_sum, read_sum, run_from, run_at}
 use Rattle.list_run.specs.declared.runs.Place.{Place}
@@ -20,23 +19,16 @@ runs_after l at = runs_of (operations_of (drop at l))
 abbrev pub direction_at : List ℕ → ℕ → Direction
 direction_at l at = direction_of (get_or l at 0)
 
-abbrev pub nowhere : Place
-nowhere = record { ok = false; at = 0; written = 0; read = 0; reading = false; sum = 0 }
-
 abbrev pub start_place : Place
-start_place = record { ok = true; at = 0; written = 0; read = 0; reading = false; sum = 0 }
+start_place = record { at = 0; written = 0; read = 0; reading = false; sum = 0 }
+
+-- the bytes of a direction before a place
+abbrev pub counted : Direction → Place → ℕ
+counted d p = cond (is_read d) p.read p.written
 
 -- behind a run
-abbrev pub added_to : Place → ℕ → ℕ → ℕ → Place
-added_to p d at n =
-    record { ok = true; at = at; written = p.written + written_in (span (direction_of d) n); read = p.read + read_in (span (direction_of d) n); reading = is_read (direction_of d); sum = n }
-
--- the same by the bytes that are written, or read, up to there
-abbrev pub written_to : Place → ℕ → ℕ → Place
-written_to p at n = record { ok = true; at = at; written = n; read = p.read; reading = false; sum = n - p.written }
-
-abbrev pub read_to : Place → ℕ → ℕ → Place
-read_to p at n = record { ok = true; at = at; written = p.written; read = n; reading = true; sum = n - p.read }
+abbrev pub added_to : Place → Direction → ℕ → ℕ → Place
+added_to p d at n = record { at = at; written = p.written + written_in (span d n); read = p.read + read_in (span d n); reading = is_read d; sum = n }
 
 -- a list that is short enough and where its last operation can begin
 pub record Listed (l : List ℕ) (last : ℕ) : Type 0 where
@@ -58,9 +50,10 @@ pub record Starts (l : List ℕ) (last : ℕ) (p : Place) : Type 0 where
   pub small : p.written + p.read ≤ 65535 * p.at
 
 -- one of this direction
-pub record Opens (l : List ℕ) (last : ℕ) (p : Place) (d : ℕ) : Type 0 where
+pub record Opens (l : List ℕ) (last : ℕ) (p : Place) (d : Direction) : Type 0 where
   pub start : Starts l last p
-  pub first : get_or l p.at 0 ≡ d
+  pub known : get_or l p.at 0 ≤ 1
+  pub first : d ≡ direction_at l p.at
 
 -- q is behind the run that begins at p
 pub record Next (l : List ℕ) (p q : Place) : Type 0 where
@@ -73,9 +66,9 @@ pub record Next (l : List ℕ) (p q : Place) : Type 0 where
   pub sound : fine (drop q.at l) ≡ fine (drop p.at l)
   pub runs : fine (drop p.at l) ≡ true → runs_after l p.at ≡ span (direction_at l p.at) q.sum ∷ runs_after l q.at
 
-pub record Passes (l : List ℕ) (p q : Place) : Type 0 where
-  pub yes : q.ok ≡ true → Next l p q
-  pub no : q.ok ≡ false → fine (drop p.at l) ≡ false
+-- none where what is left is not fine
+abbrev pub Passes : List ℕ → Place → Option Place → Type 0
+Passes l p q = MatchOption q (fine (drop p.at l) ≡ false) (Next l p)
 
 -- q is behind the operation at p: what is left has the same sums
 pub record NextOne (l : List ℕ) (p q : Place) : Type 0 where
@@ -86,9 +79,8 @@ pub record NextOne (l : List ℕ) (p q : Place) : Type 0 where
   pub written : q.written + written_sum (runs_after l q.at) ≡ p.written + written_sum (runs_after l p.at)
   pub read : q.read + read_sum (runs_after l q.at) ≡ p.read + read_sum (runs_after l p.at)
 
-pub record PassesOne (l : List ℕ) (p q : Place) : Type 0 where
-  pub yes : q.ok ≡ true → NextOne l p q
-  pub no : q.ok ≡ false → fine (drop p.at l) ≡ false
+abbrev pub PassesOne : List ℕ → Place → Option Place → Type 0
+PassesOne l p q = MatchOption q (fine (drop p.at l) ≡ false) (NextOne l p)
 
 -- of the run of number k so many runs are ahead
 pub record Ahead (l : List ℕ) (last k ahead : ℕ) (p : Place) : Type 0 where
@@ -98,9 +90,8 @@ pub record Ahead (l : List ℕ) (last k ahead : ℕ) (p : Place) : Type 0 where
   pub written : fine l ≡ true → p.written + written_sum (runs_after l p.at) ≡ written_sum (runs_of (operations_of l))
   pub read : fine l ≡ true → p.read + read_sum (runs_after l p.at) ≡ read_sum (runs_of (operations_of l))
 
-pub record Skips (l : List ℕ) (last k : ℕ) (p : Place) : Type 0 where
-  pub yes : p.ok ≡ true → Ahead l last k 0 p
-  pub no : p.ok ≡ false → fine l ≡ true → run_at (runs_of (operations_of l)) k ≡ Nothing
+abbrev pub Skips : List ℕ → ℕ → ℕ → Option Place → Type 0
+Skips l last k p = MatchOption p (fine l ≡ true → run_at (runs_of (operations_of l)) k ≡ None) (Ahead l last k 0)
 
 -- from p to q, which is as far as the sums have come
 pub record Between (l : List ℕ) (last : ℕ) (p q : Place) : Type 0 where
@@ -116,6 +107,5 @@ pub record Summed (l : List ℕ) (p q : Place) : Type 0 where
   pub written : q.written ≡ p.written + written_sum (runs_after l p.at)
   pub read : q.read ≡ p.read + read_sum (runs_after l p.at)
 
-pub record Rests (l : List ℕ) (p q : Place) : Type 0 where
-  pub yes : q.ok ≡ true → Summed l p q
-  pub no : q.ok ≡ false → fine (drop p.at l) ≡ false
+abbrev pub Rests : List ℕ → Place → Option Place → Type 0
+Rests l p q = MatchOption q (fine (drop p.at l) ≡ false) (Summed l p)

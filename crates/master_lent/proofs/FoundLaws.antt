@@ -7,9 +7,11 @@ use mathlib.Core.Option.{Option, none, some}
 use Prim.Native.Nat.{ℕ}
 use lib.Dec.{ltb}
 use lib.ListN.{length}
+use Rattle.std.specs.Prelude.{Result, Ok, Err}
+use Rattle.std.specs.Prelude as prelude
 use Rattle.access.specs.declared.ending.Error.{Error}
 use Rattle.access.specs.declared.ending.Error.TheVariants.{InvalidAddress, TooManyOperations}
-use Rattle.operations.specs.declared.search.FoundRun.{FoundRun}
+use Rattle.operations.specs.declared.search.Run.{Run}
 use Rattle.operations.specs.Runs.{run_at}
 use Rattle.operations.specs.Search.{fault_from}
 use Rattle.operations.proofs.ListLaws.{fault_free_shaped}
@@ -17,16 +19,14 @@ use Rattle.master.specs.declared.call.Kind.{Kind}
 use Rattle.master.specs.declared.call.Kind.TheVariants as kind
 use Rattle.master.specs.Calls.{misshapen, cause_at, spans_by}
 use Rattle.master.proofs.CallAgrees.{passed_cause, passed_list}
-use Rattle.master_lent.specs.declared.lent.Looked.{Looked}
-use Rattle.master_lent.specs.declared.lent.Looked.TheVariants as looked
 use Rattle.master_lent.specs.Look.{looked_with, look}
 
 -- ---- what was found
 
 module _ (x : Kind) (address : ℕ) (list : List ℕ) (written room k : ℕ) where
-  abbrev Says : Looked → Type 0
-  Says (looked.Refused e) = cause_at x address list written room ≡ some e
-  Says (looked.Found f) = (cause_at x address list written room ≡ none) × (f ≡ run_at (spans_by x list written room) k)
+  abbrev Says : Result (prelude.Option Run) Error → Type 0
+  Says (Err e) = cause_at x address list written room ≡ some e
+  Says (Ok f) = (cause_at x address list written room ≡ none) × (f ≡ run_at (spans_by x list written room) k)
 
   says : Says (look x address list written room k)
   unfolding look
@@ -36,10 +36,10 @@ module _ (x : Kind) (address : ℕ) (list : List ℕ) (written room k : ℕ) whe
       go none q = (q, refl)
       go (some e) q = q
 
-  pub refused_cause : (e : Error) → looked.Refused e ≡ look x address list written room k → cause_at x address list written room ≡ some e
+  pub refused_cause : (e : Error) → Err e ≡ look x address list written room k → cause_at x address list written room ≡ some e
   refused_cause e q = subst Says (sym q) says
 
-  pub found_cause : (f : FoundRun) → looked.Found f ≡ look x address list written room k → (cause_at x address list written room ≡ none) × (f ≡ run_at (spans_by x list written room) k)
+  pub found_cause : (f : prelude.Option Run) → Ok f ≡ look x address list written room k → (cause_at x address list written room ≡ none) × (f ≡ run_at (spans_by x list written room) k)
   found_cause f q = subst Says (sym q) says
 
 -- without another cause the list has its form
