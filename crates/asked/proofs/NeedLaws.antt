@@ -1,12 +1,14 @@
 -- A number tells what it asks for.
 -- Assumes nothing.
 use Prim.Native.Nat.{ℕ, ◌+◌, ◌*◌, ◌/◌, ◌%◌, ◌<◌}
-use mathlib.Core.Path.{◌≡◌, refl, ap, ◌∙◌}
+use mathlib.Core.Path.{◌≡◌, refl, ap, ◌∙◌, sym}
 use native.Mathlib.Omega.{arith}
 use Rattle.registers.specs.declared.register.Register.{Register}
 use Rattle.registers.specs.declared.register.Register.TheVariants.{Ctlr1, Ctlr2, Oaddr1, Oaddr2, Datar, Star1, Star2, Ckcfgr, Rtr}
 use Rattle.registers.specs.Numbers.{register_number}
 use Rattle.registers.proofs.NumberLaws.{register_back, register_below}
+use Rattle.access.specs.Endings.{Ending, ending_number}
+use Rattle.access.specs.Numbers.{EndHoldsWords}
 use Rattle.access.specs.declared.need.Need.{Need}
 use Rattle.access.specs.declared.need.Need.TheVariants.{Read, Write, Clock, Send, Keep, Drop, End}
 use Rattle.access.proofs.EndingLaws.{end_kind, number_in}
@@ -47,3 +49,22 @@ need_back (End e) h = rw (end_kind e h) (ap End (number_in e h))
 
 pub asks_told : (n : ℕ) (x : Need) → Asks n x → need_of n ≡ x
 asks_told n x a = ap need_of a.number ∙ need_back x a.words
+
+-- a number that asks for x is that of what it says
+pub asks_kept : (n : ℕ) (x : Need) → Asks n x → need_number (need_of n) ≡ n
+asks_kept n x a = ap need_number (asks_told n x a) ∙ sym a.number
+
+pub asks_read : (r : Register) (n : ℕ) → n ≡ register_number r → Asks (1 + n * 256) (Read r)
+asks_read r n e = record { number = ap (λ (m : ℕ). 1 + m * 256) e; words = tt }
+
+pub asks_write : (r : Register) (n v : ℕ) → n ≡ register_number r → v < 65536 → Asks (2 + n * 256 + v * 65536) (Write r v)
+asks_write r n v e h = record { number = ap (λ (m : ℕ). 2 + m * 256 + v * 65536) e; words = h }
+
+pub asks_send : (p : ℕ) → p < 4294967296 → Asks (4 + p * 65536) (Send p)
+asks_send p h = record { number = refl; words = h }
+
+pub asks_keep : (p : ℕ) → p < 4294967296 → Asks (5 + p * 65536) (Keep p)
+asks_keep p h = record { number = refl; words = h }
+
+pub asks_end : (e : Ending) (n : ℕ) → n ≡ ending_number e → EndHoldsWords e → Asks n (End e)
+asks_end e n q h = record { number = q; words = h }

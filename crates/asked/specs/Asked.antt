@@ -1,5 +1,5 @@
 -- What is asked for next, as a number: C's, but for a byte to send, to keep or to drop, which have kinds of their own.
-use Rattle.std.specs.Prelude.{◌≡◌, Bool, true, false, cond, eqb, ℕ, ◌+◌, ◌*◌, ◌/◌, ◌%◌, ◌<◌}
+use Rattle.std.specs.Prelude.{◌≡◌, Bool, true, false, cond, eqb, ℕ, ◌+◌, ◌*◌, ◌/◌, ◌%◌, ◌<◌, Option, Some, None}
 use Rattle.registers.specs.Numbers.{register_number, register_of}
 use Rattle.access.specs.declared.need.Need.{Need}
 use Rattle.access.specs.declared.need.Need.TheVariants.{Read, Write, Clock, Send, Keep, Drop, End}
@@ -49,3 +49,13 @@ is_keep (Send p) = false
 is_keep (Keep p) = true
 is_keep Drop = false
 is_keep (End e) = false
+
+-- where a byte is to be kept, if one is needed that is
+abbrev pub kept_place : Need → Option ℕ
+kept_place (Read r) = None
+kept_place (Write r v) = None
+kept_place Clock = None
+kept_place (Send p) = None
+kept_place (Keep p) = Some p
+kept_place Drop = None
+kept_place (End e) = None
