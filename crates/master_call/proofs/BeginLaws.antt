@@ -4,6 +4,7 @@ use mathlib.Core.Path.{◌≡◌, refl, ap, sym, ◌∙◌}
 use mathlib.Core.Bool.{Bool, true, false, cond, not, ◌&&◌, ◌||◌}
 use mathlib.Core.List.{List}
 use Prim.Native.Nat.{ℕ}
+use Rattle.std.specs.Prelude.{Result, Ok, Err, Option, Some, None}
 use Rattle.registers.specs.declared.register.Register.TheVariants.{Ctlr1}
 use Rattle.access.specs.declared.ending.Error.{Error}
 use Rattle.access.specs.declared.ending.Error.TheVariants.{InvalidArgument}
@@ -13,10 +14,8 @@ use Rattle.block.specs.declared.fields.Fields.{Fields}
 use Rattle.block.specs.Bytes32.{bytes_of}
 use Rattle.images.specs.Numbers.{chip_number}
 use Rattle.images.specs.MasterImage.{kind_entry, kind_option}
-use Rattle.asked.specs.Asked.{Asks}
+use Rattle.access.specs.declared.need.Need.{Need}
 use Rattle.operations.specs.declared.search.Run.{Run}
-use Rattle.operations.specs.declared.search.FoundRun.{FoundRun}
-use Rattle.operations.specs.declared.search.FoundRun.TheVariants as found
 use Rattle.operations.specs.Operations.{is_read}
 use Rattle.master.specs.declared.call.Call.{Call}
 use Rattle.master.specs.declared.call.FrameOptions.{FrameOptions}
@@ -26,7 +25,6 @@ use Rattle.master.specs.declared.call.Kind.TheVariants as kind
 use Rattle.master.specs.declared.stage.Stage.TheVariants.{Begin, Ended}
 use Rattle.master.specs.Machine.{fresh, begun, start_with, write_bytes_move}
 use Rattle.master.specs.Calls.{frame_for, setting_of, misshapen}
-use Rattle.master_lent.specs.declared.lent.Looked.TheVariants as looked
 use Rattle.master_lent.specs.Look.{look}
 use Rattle.master_lent.proofs.FoundLaws.{refused_cause, found_cause}
 use Rattle.master_step.specs.declared.here.Here.{Here}
@@ -34,7 +32,7 @@ use Rattle.master_step.specs.Going.{here_in}
 use Rattle.master_step.specs.Held.{fields_at, block_at, Moves}
 use Rattle.master_step.proofs.Laws.{moves}
 use Rattle.master_call.specs.CallStep.{here_by}
-use Rattle.master_call.specs.CallBegin.{CallBegins}
+use Rattle.master_call.specs.CallBegin.{StartsAt, CallBegins}
 
 -- ---- what there is to know of a run, by the number of the option
 
@@ -77,34 +75,35 @@ begun_block c f b e k = k ∙ ap bytes_of e
 
 -- ---- the first access
 
-pub starts_ended : (c : Call) (f : Fields) (after : List ℕ) (asked : ℕ) → f ≡ fields_at c fresh 10 0 0 → after ≡ bytes_of f → Asks asked (need.End done) → Moves c (start_with (setting_of c) found.Nothing) after asked
+pub starts_ended : (c : Call) (f : Fields) (after : List ℕ) (asked : Need) → f ≡ fields_at c fresh 10 0 0 → after ≡ bytes_of f → asked ≡ (need.End done) → Moves c (start_with (setting_of c) None) after asked
 unfolding block_at
 starts_ended c f after asked e b k = moves {st = Ended} (b ∙ ap bytes_of e) k
 
-module _ (c : Call) (r : Run) (here : Here) (h : here ≡ here_in c r (is_read r.direction)) (after : List ℕ) (asked : ℕ) where
+module _ (c : Call) (r : Run) (here : Here) (h : here ≡ here_in c r (is_read r.direction)) (after : List ℕ) (asked : Need) where
   has_first : {t : Bool} → here.reading || here.start ≡ t → is_read r.direction || (setting_of c).frame.send_start ≡ t
   has_first e = sym (ap (λ (x : Here). x.reading || x.start) h) ∙ e
 
-  pub starts_first : after ≡ block_at c fresh 0 0 0 → here.reading || here.start ≡ true → Asks asked (need.Read Ctlr1) → Moves c (start_with (setting_of c) (found.At r)) after asked
+  pub starts_first : after ≡ block_at c fresh 0 0 0 → here.reading || here.start ≡ true → asked ≡ (need.Read Ctlr1) → Moves c (start_with (setting_of c) (Some r)) after asked
   starts_first b t k = rw (has_first t) (moves {st = Begin} b k)
 
-  pub starts_write : here.reading || here.start ≡ false → Moves c (write_bytes_move (setting_of c) r (begun r fresh)) after asked → Moves c (start_with (setting_of c) (found.At r)) after asked
+  pub starts_write : here.reading || here.start ≡ false → Moves c (write_bytes_move (setting_of c) r (begun r fresh)) after asked → Moves c (start_with (setting_of c) (Some r)) after asked
   starts_write t m = rw (has_first t) m
 
 -- ---- begin
 
-module _ (c : Call) (list : List ℕ) (written room : ℕ) (before after : List ℕ) (asked : ℕ) where
-  pub begin_misshapen : misshapen c.kind list ≡ true → after ≡ before → Asks asked (need.End (failed InvalidArgument)) → CallBegins c list written room before after asked
+module _ (c : Call) (list : List ℕ) (written room : ℕ) (before after : List ℕ) where
+  pub begin_misshapen : misshapen c.kind list ≡ true → after ≡ before → CallBegins c list written room before after (Err InvalidArgument)
   unfolding CallBegins
-  begin_misshapen e b k = rw e (record { block = b; ended = k })
+  begin_misshapen e b = rw e (record { block = b; cause = refl })
 
   module _ (form : misshapen c.kind list ≡ false) where
-    pub begin_refused : (e : Error) → looked.Refused e ≡ look c.kind c.address list written room 0 → after ≡ before → Asks asked (need.End (failed e)) → CallBegins c list written room before after asked
+    pub begin_refused : (e : Error) → Err e ≡ look c.kind c.address list written room 0 → after ≡ before → CallBegins c list written room before after (Err e)
     unfolding CallBegins
-    begin_refused e q b k = rw (form, refused_cause c.kind c.address list written room 0 e q) (record { block = b; ended = k })
+    begin_refused e q b = rw (form, refused_cause c.kind c.address list written room 0 e q) (record { block = b; cause = refl })
 
-    pub begin_found : (x : FoundRun) → looked.Found x ≡ look c.kind c.address list written room 0 → Moves c (start_with (setting_of c) x) after asked → CallBegins c list written room before after asked
+    pub begin_found : (x : Option Run) (asked : Need) → Ok x ≡ look c.kind c.address list written room 0 → Moves c (start_with (setting_of c) x) after asked → CallBegins c list written room before after (Ok asked)
     unfolding CallBegins
-    begin_found x q m =
+    begin_found x asked q m =
         let z = found_cause c.kind c.address list written room 0 x q in
-        rw (form, z.0, ← z.1) m
+        let starts : StartsAt c (start_with (setting_of c) x) after (Ok asked) = record { block = m.block; owed = ap (λ (n : Need). Ok n) m.owed } in
+        rw (form, z.0, ← z.1) starts

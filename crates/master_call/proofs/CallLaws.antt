@@ -7,13 +7,13 @@ use mathlib.Core.List.{List}
 use mathlib.Core.Option.{none}
 use lib.Dec.{eqb, ltb}
 use lib.ListN.{length, get_or}
+use Rattle.std.specs.Prelude.{Option, Some, None}
+use Rattle.access.specs.declared.need.Need.{Need}
 use Rattle.access.specs.Machine.{is_end}
 use Rattle.access.proofs.Choice.{first_true, second_true}
 use Rattle.block.specs.Fields.{same_fields}
 use Rattle.block.specs.Bytes32.{fields_of, Bytes}
 use Rattle.operations.specs.declared.search.Run.{Run}
-use Rattle.operations.specs.declared.search.FoundRun.{FoundRun}
-use Rattle.operations.specs.declared.search.FoundRun.TheVariants as found-run
 use Rattle.operations.specs.Operations.{is_read}
 use Rattle.operations.specs.Runs.{run_at}
 use Rattle.master.specs.declared.call.Setting.{Setting}
@@ -26,8 +26,6 @@ use Rattle.master.specs.Fits.{fits, fits_at, fits_nothing}
 use Rattle.master.specs.Calls.{setting_of, spans_by, shape_by, refusal_by}
 use Rattle.master.specs.Steps.{fits_lent}
 use Rattle.stage_numbers.specs.MasterStage.{is_stage}
-use Rattle.images.specs.declared.master_image.MasterFound.{MasterFound}
-use Rattle.images.specs.declared.master_image.MasterFound.TheVariants.{At, Nothing}
 use Rattle.access.specs.Endings.{is_ending}
 use Rattle.images.specs.MasterImage.{master_fields, master_of, master_in, is_call}
 use Rattle.images.proofs.MasterImageRanges as ranges
@@ -66,11 +64,11 @@ module _ (s : State) (list : List ℕ) (w room : ℕ) where
   refused_open t e k = rw (k, e)
 
   -- no run of that number
-  pub absent_open : refusal_by s.call.kind s.call.address list w room ≡ none → run_at (spans_by s.call.kind list w room) s.progress.run ≡ found-run.Nothing → is_open s list w room ≡ false
+  pub absent_open : refusal_by s.call.kind s.call.address list w room ≡ none → run_at (spans_by s.call.kind list w room) s.progress.run ≡ None → is_open s list w room ≡ false
   unfolding fits_lent fits
   absent_open ok run = rw (ok, run) (none_open (setting_of s.call) s.stage s.progress)
 
-module _ (b list : List ℕ) (w room a : ℕ) (after : List ℕ) (asked : ℕ) where
+module _ (b list : List ℕ) (w room a : ℕ) (after : List ℕ) (asked : Need) where
   abbrev state : State
   state = master_of (fields_of b)
 
@@ -79,14 +77,14 @@ module _ (b list : List ℕ) (w room a : ℕ) (after : List ℕ) (asked : ℕ) w
   unfolding master_in
   not_open e r = go (same_fields (master_fields state) (fields_of b))
     where
-      go : (t : Bool) → Stepped (cond t (At state) Nothing) list w room a b after asked
+      go : (t : Bool) → Stepped (cond t (Some state) None) list w room a b after asked
       go true = refuses e r
       go false = r
 
   -- by the run that the state is in
   module _ (size : length b ≡ 32) (bytes : Bytes b) (call : is_call (fields_of b) ≡ true) (ending : is_ending (fields_of b).error (fields_of b).value (fields_of b).extra ≡ true)
       (ok : refusal_by state.call.kind state.call.address list w room ≡ none) (r : Run)
-      (run : run_at (spans_by state.call.kind list w room) state.progress.run ≡ found-run.At r) where
+      (run : run_at (spans_by state.call.kind list w room) state.progress.run ≡ Some r) where
     abbrev numbers : Bool
     numbers = is_stage (fields_of b).stage (fields_of b).what (fields_of b).phase
 
@@ -127,27 +125,41 @@ module _ (b list : List ℕ) (w room a : ℕ) (after : List ℕ) (asked : ℕ) w
 
         go : (t : Bool) → numbers ≡ t → Stepped (master_in (fields_of b)) list w room a b after asked
         go true q =
-            subst (λ (f : MasterFound). Stepped f list w room a b after asked) (ranges.found (fields_of b) call q ending)
+            subst (λ (f : Option State). Stepped f list w room a b after asked) (ranges.found (fields_of b) call q ending)
             (subst (λ (t : Bool). Steps t state.call (advance_at (setting_of state.call) (run_of (shape_by state.call list w room) state.progress.run) state.stage state.progress a) b after asked) (sym (open_is q))
-            (subst (λ (f : FoundRun). Steps (is_taken state.call r state.progress b) state.call (advance_at (setting_of state.call) (found_run f) state.stage state.progress a) b after asked) (sym run)
+            (subst (λ (f : Option Run). Steps (is_taken state.call r state.progress b) state.call (advance_at (setting_of state.call) (found_run f) state.stage state.progress a) b after asked) (sym run)
             (subst (λ (st : Stage). Steps (is_taken state.call r state.progress b) state.call (advance_at (setting_of state.call) r st state.progress a) b after asked) same_stage taken)))
         go false q =
-            subst (λ (f : MasterFound). Stepped f list w room a b after asked) (ranges.no_stage (fields_of b) call q)
+            subst (λ (f : Option State). Stepped f list w room a b after asked) (ranges.no_stage (fields_of b) call q)
             (taken.refused (no_numbers q))
 
 -- ---- by the entry
 
-module _ (entry : ℕ) (b list : List ℕ) (w room a : ℕ) (after : List ℕ) (asked : ℕ) where
+-- one that holds such a call: its number, and its other numbers
+module _ (entry : ℕ) (b : List ℕ) (e : is_call_of entry b ≡ true) where
+  pub own_entry : eqb (fields_of b).entry entry ≡ true
+  unfolding is_call_of
+  own_entry = first_true (eqb (fields_of b).entry entry) _ e
+
+  pub is_call_lem : is_call (fields_of b) ≡ true
+  unfolding is_call_of
+  is_call_lem = first_true (is_call (fields_of b)) _ (second_true (eqb (fields_of b).entry entry) _ e)
+
+  pub is_ending_lem : is_ending (fields_of b).error (fields_of b).value (fields_of b).extra ≡ true
+  unfolding is_call_of
+  is_ending_lem = second_true (is_call (fields_of b)) _ (second_true (eqb (fields_of b).entry entry) _ e)
+
+module _ (entry : ℕ) (b list : List ℕ) (w room a : ℕ) (after : List ℕ) (asked : Need) where
   -- a block that holds no call of the entry
   pub no_call : is_call_of entry b ≡ false → Refuses b after asked → Stepped (held_in entry b) list w room a b after asked
   unfolding is_call_of held_in master_in
   no_call e r = go (eqb (fields_of b).entry entry) (is_call (fields_of b)) (is_ending (fields_of b).error (fields_of b).value (fields_of b).extra) e refl refl
     where
-      other : (t : Bool) → same_fields (master_fields (master_of (fields_of b))) (fields_of b) ≡ t → t ≡ false → Stepped (cond (same_fields (master_fields (master_of (fields_of b))) (fields_of b)) (At (master_of (fields_of b))) Nothing) list w room a b after asked
-      other t q z = subst (λ (x : Bool). Stepped (cond x (At (master_of (fields_of b))) Nothing) list w room a b after asked) (sym (q ∙ z)) r
+      other : (t : Bool) → same_fields (master_fields (master_of (fields_of b))) (fields_of b) ≡ t → t ≡ false → Stepped (cond (same_fields (master_fields (master_of (fields_of b))) (fields_of b)) (Some (master_of (fields_of b))) None) list w room a b after asked
+      other t q z = subst (λ (x : Bool). Stepped (cond x (Some (master_of (fields_of b))) None) list w room a b after asked) (sym (q ∙ z)) r
 
       go : (own call ending : Bool) → own && (call && ending) ≡ false → is_call (fields_of b) ≡ call → is_ending (fields_of b).error (fields_of b).value (fields_of b).extra ≡ ending
-          → Stepped (cond own (cond (same_fields (master_fields (master_of (fields_of b))) (fields_of b)) (At (master_of (fields_of b))) Nothing) Nothing) list w room a b after asked
+          → Stepped (cond own (cond (same_fields (master_fields (master_of (fields_of b))) (fields_of b)) (Some (master_of (fields_of b))) None) None) list w room a b after asked
       go false call ending e c k = r
       go true false ending e c k = other _ (ranges.image_ranges (fields_of b)) (rw c)
       go true true false e c k = other _ (ranges.image_ranges (fields_of b)) (rw (c, k) (last (is_stage (fields_of b).stage (fields_of b).what (fields_of b).phase)))
@@ -157,20 +169,7 @@ module _ (entry : ℕ) (b list : List ℕ) (w room a : ℕ) (after : List ℕ) (
           last false = refl
       go true true true e c k = absurd (true≢false e)
 
-  -- one that does: its number, and its other numbers
-  module _ (e : is_call_of entry b ≡ true) where
-    pub own_entry : eqb (fields_of b).entry entry ≡ true
-    unfolding is_call_of
-    own_entry = first_true (eqb (fields_of b).entry entry) _ e
-
-    pub is_call_lem : is_call (fields_of b) ≡ true
-    unfolding is_call_of
-    is_call_lem = first_true (is_call (fields_of b)) _ (second_true (eqb (fields_of b).entry entry) _ e)
-
-    pub is_ending_lem : is_ending (fields_of b).error (fields_of b).value (fields_of b).extra ≡ true
-    unfolding is_call_of
-    is_ending_lem = second_true (is_call (fields_of b)) _ (second_true (eqb (fields_of b).entry entry) _ e)
-
-    pub held : Stepped (master_in (fields_of b)) list w room a b after asked → Stepped (held_in entry b) list w room a b after asked
-    unfolding held_in
-    held x = subst (λ (t : Bool). Stepped (cond t (master_in (fields_of b)) Nothing) list w room a b after asked) (sym own_entry) x
+  -- and one that does
+  pub held : is_call_of entry b ≡ true → Stepped (master_in (fields_of b)) list w room a b after asked → Stepped (held_in entry b) list w room a b after asked
+  unfolding held_in
+  held e x = subst (λ (t : Bool). Stepped (cond t (master_in (fields_of b)) None) list w room a b after asked) (sym (own_entry entry b e)) x

@@ -1,5 +1,6 @@
 -- A step of a transaction by what is found of its list.
 -- Assumes nothing.
+use Rattle.std.specs.Prelude.{Option, Some, None, Result, Ok, Err, is_some}
 use Prim.Native.Nat.{ℕ}
 use mathlib.Core.Path.{◌≡◌, refl, sym, ap, ◌∙◌}
 use mathlib.Core.Bool.{Bool, true, false, ◌&&◌, true≢false}
@@ -11,18 +12,15 @@ use lib.ListN.{length}
 use Rattle.access.proofs.Choice.{first_true, second_true}
 use Rattle.access.specs.declared.ending.Error.{Error}
 use Rattle.access.specs.declared.ending.Error.TheVariants.{InvalidAddress, InvalidArgument}
+use Rattle.access.specs.declared.need.Need.{Need}
 use Rattle.block.specs.Bytes32.{word_at, fields_of, Bytes}
 use Rattle.operations.specs.declared.search.Run.{Run}
-use Rattle.operations.specs.declared.search.FoundRun.{FoundRun}
-use Rattle.operations.specs.declared.search.FoundRun.TheVariants as found-run
 use Rattle.operations.specs.Operations.{is_read}
 use Rattle.master.specs.declared.call.Kind.TheVariants as kind
 use Rattle.master.specs.declared.state.State.{State}
 use Rattle.master.specs.Fits.{fits}
 use Rattle.master.specs.Calls.{misshapen, cause_at, refuse, refusal_by, shape_by}
 use Rattle.master.specs.Steps.{fits_lent, is_none, move_of}
-use Rattle.master_lent.specs.declared.lent.Looked.{Looked}
-use Rattle.master_lent.specs.declared.lent.Looked.TheVariants as looked
 use Rattle.master_lent.specs.Look.{look}
 use Rattle.master_lent.proofs.FoundLaws.{refused_cause, found_cause, formed}
 use Rattle.images.specs.MasterImage.{master_of, master_in}
@@ -36,10 +34,10 @@ use Rattle.master_call.proofs.CallLaws.{refused_open, absent_open, not_open, in_
 use Rattle.master_call.proofs.RunLaws.{entry_is, stops_as}
 
 module _ (s : State) (list : List ℕ) (w room : ℕ) where
-  abbrev here_look : Looked
+  abbrev here_look : Result (Option Run) Error
   here_look = look s.call.kind s.call.address list w room s.progress.run
 
-  cause_open : (e : Error) → looked.Refused e ≡ here_look → is_open s list w room ≡ false
+  cause_open : (e : Error) → Err e ≡ here_look → is_open s list w room ≡ false
   unfolding fits_lent
   cause_open e q = refused_open s list w room false refl (go (misshapen s.call.kind list) (refused_cause s.call.kind s.call.address list w room s.progress.run e q))
     where
@@ -48,7 +46,7 @@ module _ (s : State) (list : List ℕ) (w room : ℕ) where
       go true q = refl
       go false q = rw q
 
-  accepted : (f : FoundRun) → looked.Found f ≡ here_look → refusal_by s.call.kind s.call.address list w room ≡ none
+  accepted : (f : Option Run) → Ok f ≡ here_look → refusal_by s.call.kind s.call.address list w room ≡ none
   accepted f q =
       let z = found_cause s.call.kind s.call.address list w room s.progress.run f q in
       rw (formed s.call.kind s.call.address list w room z.0, z.0)
@@ -59,7 +57,7 @@ module _ (s : State) (list : List ℕ) (w room : ℕ) where
 abbrev pub calling : List ℕ → Bool
 calling b = is_call_of 2 b && leb (word_at b 8) 127
 
-module _ (b list : List ℕ) (w room a : ℕ) (after : List ℕ) (asked : ℕ) where
+module _ (b list : List ℕ) (w room a : ℕ) (after : List ℕ) (asked : Need) where
   abbrev state : State
   state = master_of (fields_of b)
 
@@ -74,7 +72,7 @@ module _ (b list : List ℕ) (w room a : ℕ) (after : List ℕ) (asked : ℕ) w
           (not_open b list w room a after asked (cause_open state list w room InvalidAddress (rw (entry_is 2 b c-is, lt-ltb 127 (word_at b 8) (leb-false (word_at b 8) 127 d-is)))) r)
       go true true c-is d-is z = absurd (true≢false z)
 
-  module _ (all : Bytes b) (e : calling b ≡ true) (f : Found) (ef : f ≡ found_of (look kind.Transaction 0 list w room (word_at b 10))) where
+  module _ (all : Bytes b) (e : calling b ≡ true) (f : Option Found) (ef : f ≡ found_of (look kind.Transaction 0 list w room (word_at b 10))) where
     call : is_call_of 2 b ≡ true
     call = first_true (is_call_of 2 b) _ e
 
@@ -87,24 +85,32 @@ module _ (b list : List ℕ) (w room a : ℕ) (after : List ℕ) (asked : ℕ) w
     unfolding master_of fields_of
     here_is r = rw (entry_is 2 b call, stops_as r.more)
 
-    pub list_refused : f.found ≡ false → Refuses b after asked → Stepped (held_in 2 b) list w room a b after asked
+    found_or : Found → Option Found → Found
+    found_or x (Some y) = y
+    found_or x None = x
+
+    here_of : Found → Here
+    here_of y = here_by y.reading y.length y.before y.more 0
+
+    pub list_refused : f ≡ None → Refuses b after asked → Stepped (held_in 2 b) list w room a b after asked
     list_refused absent r = held 2 b list w room a after asked call (go (here_look state list w room) refl (ef ∙ ap found_of same_look))
       where
-        go : (l : Looked) → l ≡ here_look state list w room → f ≡ found_of l → Stepped (master_in (fields_of b)) list w room a b after asked
-        go (looked.Refused x) q t = not_open b list w room a after asked (cause_open state list w room x q) r
-        go (looked.Found found-run.Nothing) q t =
-            let z = found_cause state.call.kind state.call.address list w room state.progress.run found-run.Nothing q in
-            not_open b list w room a after asked (absent_open state list w room (accepted state list w room found-run.Nothing q) (sym z.1)) r
-        go (looked.Found (found-run.At x)) q t = absurd (true≢false (sym (ap (λ (y : Found). y.found) t) ∙ absent))
+        go : (l : Result (Option Run) Error) → l ≡ here_look state list w room → f ≡ found_of l → Stepped (master_in (fields_of b)) list w room a b after asked
+        go (Err x) q t = not_open b list w room a after asked (cause_open state list w room x q) r
+        go (Ok None) q t =
+            let z = found_cause state.call.kind state.call.address list w room state.progress.run None q in
+            not_open b list w room a after asked (absent_open state list w room (accepted state list w room None q) (sym z.1)) r
+        go (Ok (Some x)) q t = absurd (true≢false (sym (ap is_some t) ∙ ap is_some absent))
 
-    pub list_steps : length b ≡ 32 → f.found ≡ true → (here : Here) → here ≡ here_by f.reading f.length f.before f.more 0 → StepIn here a b after asked
+    pub list_steps : length b ≡ 32 → (x : Found) → f ≡ Some x → (here : Here) → here ≡ here_by x.reading x.length x.before x.more 0 → StepIn here a b after asked
         → Stepped (held_in 2 b) list w room a b after asked
-    list_steps size present here h steps = held 2 b list w room a after asked call (go (here_look state list w room) refl (ef ∙ ap found_of same_look))
+    unfolding here_of found_or
+    list_steps size x present here h steps = held 2 b list w room a after asked call (go (here_look state list w room) refl (ef ∙ ap found_of same_look))
       where
-        go : (l : Looked) → l ≡ here_look state list w room → f ≡ found_of l → Stepped (master_in (fields_of b)) list w room a b after asked
-        go (looked.Refused x) q t = absurd (true≢false (sym present ∙ ap (λ (y : Found). y.found) t))
-        go (looked.Found found-run.Nothing) q t = absurd (true≢false (sym present ∙ ap (λ (y : Found). y.found) t))
-        go (looked.Found (found-run.At r)) q t =
-            let z = found_cause state.call.kind state.call.address list w room state.progress.run (found-run.At r) q in
-            in_run b list w room a after asked size all (is_call_lem 2 b list w room a after asked call) (is_ending_lem 2 b list w room a after asked call) (accepted state list w room (found-run.At r) q) r (sym z.1) here
-            (h ∙ ap (λ (y : Found). here_by y.reading y.length y.before y.more 0) t ∙ here_is r) steps
+        go : (l : Result (Option Run) Error) → l ≡ here_look state list w room → f ≡ found_of l → Stepped (master_in (fields_of b)) list w room a b after asked
+        go (Err e) q t = absurd (true≢false (sym (ap is_some present) ∙ ap is_some t))
+        go (Ok None) q t = absurd (true≢false (sym (ap is_some present) ∙ ap is_some t))
+        go (Ok (Some r)) q t =
+            let z = found_cause state.call.kind state.call.address list w room state.progress.run (Some r) q in
+            in_run b list w room a after asked size all (is_call_lem 2 b call) (is_ending_lem 2 b call) (accepted state list w room (Some r) q) r (sym z.1) here
+            (h ∙ ap (λ (o : Option Found). here_of (found_or x o)) (sym present ∙ t) ∙ here_is r) steps

@@ -8,6 +8,7 @@ use native.Mathlib.Omega.{arith}
 use borrow.Author.Tests.{eqb-true, eqb-false, leb-true, leb-false, ltb-true, ltb-false, lt-ltb, le-ltb}
 use lib.Dec.{eqb, leb, ltb}
 use lib.ListN.{length, get_or}
+use Rattle.access.specs.declared.need.Need.{Need}
 use Rattle.access.proofs.Choice.{first_true, second_true}
 use Rattle.block.specs.Bytes32.{word_at, fields_of, Bytes}
 use Rattle.block.proofs.WidthLaws.{byte_below}
@@ -47,7 +48,7 @@ stops_as false = refl
 module _ (entry : ℕ) (b : List ℕ) (e : is_call_of entry b ≡ true) where
   pub entry_is : get_or b 0 0 ≡ entry
   unfolding fields_of
-  entry_is = eqb-true (get_or b 0 0) entry (own_entry entry b [] 0 0 0 [] 0 e)
+  entry_is = eqb-true (get_or b 0 0) entry (own_entry entry b e)
 
 -- ---- a write
 
@@ -57,7 +58,7 @@ writing b w = is_call_of 4 b && (leb (word_at b 8) 127 && (leb w 65535 && eqb (w
 pub write_short : (b : List ℕ) (w : ℕ) → writing b w ≡ true → w ≤ 65535
 write_short b w e = leb-true w 65535 (first_true (leb w 65535) _ (second_true (leb (word_at b 8) 127) _ (second_true (is_call_of 4 b) _ e)))
 
-module _ (b : List ℕ) (w a : ℕ) (after : List ℕ) (asked : ℕ) where
+module _ (b : List ℕ) (w a : ℕ) (after : List ℕ) (asked : Need) where
   module _ (size : length b ≡ 32) (all : Bytes b) (e : writing b w ≡ true) where
     abbrev write_run : Run
     write_run = record { direction = direction.Write; length = w; before = 0; more = false }
@@ -75,7 +76,7 @@ module _ (b : List ℕ) (w a : ℕ) (after : List ℕ) (asked : ℕ) where
     unfolding master_of fields_of
     write_steps here h steps =
         held 4 b [] w 0 a after asked write_call
-        (in_run b [] w 0 a after asked size all (is_call_lem 4 b [] w 0 a after asked write_call) (is_ending_lem 4 b [] w 0 a after asked write_call)
+        (in_run b [] w 0 a after asked size all (is_call_lem 4 b write_call) (is_ending_lem 4 b write_call)
         (rw (entry_is 4 b write_call, le-ltb 127 (word_at b 8) write_address, le-ltb 65535 w (write_short b w e)))
         write_run
         (rw (entry_is 4 b write_call) (sym (only_run direction.Write w (word_at b 10) write_first)))
@@ -106,7 +107,7 @@ reading b n = is_call_of 5 b && (leb (word_at b 8) 127 && (not (eqb n 0) && (leb
 pub read_short : (b : List ℕ) (n : ℕ) → reading b n ≡ true → n ≤ 65535
 read_short b n e = leb-true n 65535 (first_true (leb n 65535) _ (second_true (not (eqb n 0)) _ (second_true (leb (word_at b 8) 127) _ (second_true (is_call_of 5 b) _ e))))
 
-module _ (b : List ℕ) (n a : ℕ) (after : List ℕ) (asked : ℕ) where
+module _ (b : List ℕ) (n a : ℕ) (after : List ℕ) (asked : Need) where
   module _ (size : length b ≡ 32) (all : Bytes b) (e : reading b n ≡ true) where
     abbrev read_run : Run
     read_run = record { direction = direction.Read; length = n; before = 0; more = false }
@@ -127,7 +128,7 @@ module _ (b : List ℕ) (n a : ℕ) (after : List ℕ) (asked : ℕ) where
     unfolding master_of fields_of
     read_steps here h steps =
         held 5 b [] 0 n a after asked read_call
-        (in_run b [] 0 n a after asked size all (is_call_lem 5 b [] 0 n a after asked read_call) (is_ending_lem 5 b [] 0 n a after asked read_call)
+        (in_run b [] 0 n a after asked size all (is_call_lem 5 b read_call) (is_ending_lem 5 b read_call)
         (rw (entry_is 5 b read_call, le-ltb 127 (word_at b 8) read_address, read_filled, le-ltb 65535 n (read_short b n e)))
         read_run
         (rw (entry_is 5 b read_call) (sym (only_run direction.Read n (word_at b 10) read_first)))
@@ -164,7 +165,7 @@ both_few b w n e = first_true (few_enough w n) _ (second_true (leb (word_at b 8)
 pub both_short : (b : List ℕ) (w n : ℕ) → both b w n ≡ true → w + n ≤ 65535
 both_short b w n e = leb-true (w + n) 65535 (second_true (not (eqb n 0)) _ (both_few b w n e))
 
-module _ (b : List ℕ) (w n a : ℕ) (after : List ℕ) (asked : ℕ) where
+module _ (b : List ℕ) (w n a : ℕ) (after : List ℕ) (asked : Need) where
   module _ (size : length b ≡ 32) (all : Bytes b) (e : both b w n ≡ true) where
     both_call : is_call_of 3 b ≡ true
     both_call = first_true (is_call_of 3 b) _ e
@@ -188,7 +189,7 @@ module _ (b : List ℕ) (w n a : ℕ) (after : List ℕ) (asked : ℕ) where
     unfolding master_of fields_of
     written_steps z here h steps =
         held 3 b [] w n a after asked both_call
-        (in_run b [] w n a after asked size all (is_call_lem 3 b [] w n a after asked both_call) (is_ending_lem 3 b [] w n a after asked both_call)
+        (in_run b [] w n a after asked size all (is_call_lem 3 b both_call) (is_ending_lem 3 b both_call)
         (rw (entry_is 3 b both_call, both_filled, le-ltb 127 (word_at b 8) both_address, le-ltb 65535 (w + n) (both_short b w n e)))
         first_of
         (rw (entry_is 3 b both_call) (sym (first_run (span direction.Write w) (span direction.Read n ∷ []) (word_at b 10) z)))
@@ -200,7 +201,7 @@ module _ (b : List ℕ) (w n a : ℕ) (after : List ℕ) (asked : ℕ) where
     unfolding master_of fields_of
     read_back_steps z here h steps =
         held 3 b [] w n a after asked both_call
-        (in_run b [] w n a after asked size all (is_call_lem 3 b [] w n a after asked both_call) (is_ending_lem 3 b [] w n a after asked both_call)
+        (in_run b [] w n a after asked size all (is_call_lem 3 b both_call) (is_ending_lem 3 b both_call)
         (rw (entry_is 3 b both_call, both_filled, le-ltb 127 (word_at b 8) both_address, le-ltb 65535 (w + n) (both_short b w n e)))
         second_of
         (rw (entry_is 3 b both_call) (sym (second_run w n (word_at b 10) (omega (arith, both_run, z)))))

@@ -1,9 +1,8 @@
 -- A step of a transfer on its block, by what is lent: the list, and how many bytes to write and to read.
-use Rattle.std.specs.Prelude.{Bool, not, cond, ◌&&◌, ◌||◌, List, ℕ, ◌+◌, eqb, leb, ltb}
+use Rattle.access.specs.declared.need.Need.{Need}
+use Rattle.std.specs.Prelude.{Bool, not, cond, ◌&&◌, ◌||◌, List, ℕ, ◌+◌, eqb, leb, ltb, Option, Some, None}
 use Rattle.access.specs.Machine.{is_end}
 use Rattle.block.specs.Bytes32.{fields_of, Bytes}
-use Rattle.images.specs.declared.master_image.MasterFound.{MasterFound}
-use Rattle.images.specs.declared.master_image.MasterFound.TheVariants.{At, Nothing}
 use Rattle.access.specs.Endings.{is_ending}
 use Rattle.images.specs.MasterImage.{master_in, is_call}
 use Rattle.master.specs.declared.state.State.{State}
@@ -18,8 +17,13 @@ unfoldable pub is_call_of : ℕ → List ℕ → Bool
 is_call_of entry b = eqb (fields_of b).entry entry && (is_call (fields_of b) && is_ending (fields_of b).error (fields_of b).value (fields_of b).extra)
 
 -- the state of an entry's call that a block of 32 bytes holds
-unfoldable pub held_in : ℕ → List ℕ → MasterFound
-held_in entry b = cond (eqb (fields_of b).entry entry) (master_in (fields_of b)) Nothing
+unfoldable pub held_in : ℕ → List ℕ → Option State
+held_in entry b = cond (eqb (fields_of b).entry entry) (master_in (fields_of b)) None
+
+-- the state that is found, if it fits this list and so many bytes to write and to read
+abbrev pub fitting_in : List ℕ → ℕ → ℕ → Option State → Option State
+fitting_in list written room (Some s) = cond (fits_lent s list written room) (Some s) None
+fitting_in list written room None = None
 
 -- what there is to know of a run, with the number of a frame's option
 abbrev pub here_by : Bool → ℕ → ℕ → Bool → ℕ → Here
@@ -35,11 +39,11 @@ abbrev pub is_open : State → List ℕ → ℕ → ℕ → Bool
 is_open s list written room = fits_lent s list written room && not (is_end (need_of s))
 
 -- what becomes of a block in which this is found
-abbrev pub Stepped : MasterFound → List ℕ → ℕ → ℕ → ℕ → List ℕ → List ℕ → ℕ → Type 0
-Stepped (At s) list written room a before after asked =
+abbrev pub Stepped : Option State → List ℕ → ℕ → ℕ → ℕ → List ℕ → List ℕ → Need → Type 0
+Stepped (Some s) list written room a before after asked =
     Steps (is_open s list written room) s.call (advance_at (setting_of s.call) (run_of (shape_by s.call list written room) s.progress.run) s.stage s.progress a) before after asked
-Stepped Nothing list written room a before after asked = Refuses before after asked
+Stepped None list written room a before after asked = Refuses before after asked
 
 -- THE CONTRACT of a step of this entry
-abbrev pub CallSteps : ℕ → List ℕ → ℕ → ℕ → ℕ → List ℕ → List ℕ → ℕ → Type 0
+abbrev pub CallSteps : ℕ → List ℕ → ℕ → ℕ → ℕ → List ℕ → List ℕ → Need → Type 0
 CallSteps entry list written room a before after asked = Bytes before → Stepped (held_in entry before) list written room a before after asked

@@ -1,6 +1,5 @@
 // Where a transfer begins.
-ghost use Rattle.std.specs.Prelude.{◌≡◌, length};
-ghost use Rattle.block.specs.Bytes32.{block_size};
+ghost use Rattle.std.specs.Prelude.{◌≡◌};
 ghost use Rattle.operations.specs.Operations.{is_read};
 ghost use Rattle.master.specs.Machine.{fresh, start_with};
 ghost use Rattle.master.specs.Calls.{misshapen, setting_of};
@@ -10,13 +9,13 @@ ghost use Rattle.master_call.specs.CallBegin.{CallBegins};
 
 use crate::here;
 use access::Error;
+use asked::Asked;
 use block::{Fields, bytes32};
 use images::{master_image, numbers};
 use master::{Call, Kind};
 use master_lent::lent;
-use master_lent::lent::Looked;
 use master_step::{Here, go, put, stage};
-use operations::{FoundRun, Run, operation, shape};
+use operations::{Run, operation, shape};
 use registers::Register;
 
 // The numbers of a call that has done nothing yet, at the first stage of a group.
@@ -65,20 +64,19 @@ fn here_of(call: Call, run: Run) -> Here
 }
 
 // The first run's first access; a write without START has none of its own. An empty list has ended.
-fn starts(block: &mut [u8], call: Call, found: FoundRun) -> u64
-    requires { length block.old ≡ block_size }
+fn starts(block: &mut [u8; 32], call: Call, found: Option<Run>) -> Asked
     ensures { Moves call (start_with (setting_of call) found) block.new result }
 {
     match found {
-        FoundRun::Nothing => {
+        None => {
             bytes32::put(block, begun_fields(call, stage::ENDED));
-            asked::done()
+            Asked::done()
         }
-        FoundRun::At(run) => {
+        Some(run) => {
             bytes32::put(block, begun_fields(call, stage::BEGIN));
             let here = here_of(call, run);
             if here.reading | here.start {
-                return asked::read(Register::Ctlr1);
+                return Asked::read(Register::Ctlr1);
             }
             put::begun(block, here);
             go::write_bytes(block, here, here.length)
@@ -99,16 +97,21 @@ fn misshapen(kind: Kind, list: &[u8]) -> bool
 }
 
 // The first cause of refusal, or the first access, with so many bytes lent to write and to read.
-pub fn begin(block: &mut [u8], call: Call, list: &[u8], written: usize, room: usize) -> u64
-    requires { length block.old ≡ block_size }
+pub fn begin(
+    block: &mut [u8; 32],
+    call: Call,
+    list: &[u8],
+    written: usize,
+    room: usize,
+) -> Result<Asked, Error>
     ensures { CallBegins call list.now written room block.old block.new result }
 {
     let kind = call.kind;
     if misshapen(kind, list) {
-        return asked::refusal(Error::InvalidArgument);
+        return Err(Error::InvalidArgument);
     }
     match lent::look(kind, call.address, list, written, room, 0) {
-        Looked::Refused(error) => asked::refusal(error),
-        Looked::Found(found) => starts(block, call, found),
+        Err(error) => Err(error),
+        Ok(found) => Ok(starts(block, call, found)),
     }
 }

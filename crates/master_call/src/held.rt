@@ -1,6 +1,6 @@
 // Which blocks hold a transfer.
-ghost use Rattle.std.specs.Prelude.{◌≡◌, length};
-ghost use Rattle.block.specs.Bytes32.{block_size, fields_of};
+ghost use Rattle.std.specs.Prelude.{◌≡◌};
+ghost use Rattle.block.specs.Bytes32.{fields_of};
 ghost use Rattle.images.specs.MasterImage.{unused_empty};
 ghost use Rattle.master_call.specs.CallStep.{is_call_of};
 
@@ -8,20 +8,19 @@ use block::{at, bytes32};
 use images::{end_image, master_image, numbers};
 
 // The numbers that no master call has a use for are 0.
-fn unused_empty(block: &[u8]) -> bool
-    requires { length block.now ≡ block_size }
+#[tactic(auto, unfolding(images::specs::MasterImage::unused_empty, block::specs::Bytes32::fields_of))]
+fn unused_empty(block: &[u8; 32]) -> bool
     ensures { result ≡ unused_empty (fields_of block.now) }
 {
     (bytes32::long_at(block, at::COUNT) == 0) & ((block[at::SECOND] == 0) & (block[at::MHZ] == 0))
 }
 
 // The numbers beside those of the stage are those of a call of this entry.
-pub fn is_call_of(block: &[u8], entry: u8) -> bool
-    requires { length block.now ≡ block_size }
+pub fn is_call_of(block: &[u8; 32], entry: u8) -> bool
     ensures { result ≡ is_call_of entry block.now }
 {
     (block[at::ENTRY] == entry)
-        & ((master_image::is_kind(block[at::ENTRY], block[at::OPTION])
+        & ((master_image::is_kind(entry, block[at::OPTION])
             & (numbers::is_chip(block[at::CHIP])
                 & (numbers::is_flag(block[at::MARKS]) & unused_empty(block))))
             & end_image::is_ending(block))

@@ -1,35 +1,33 @@
 // A step of a transaction: its runs are the list's.
 ghost use Rattle.std.specs.Prelude.{◌≡◌, length};
-ghost use Rattle.block.specs.Bytes32.{block_size};
 ghost use Rattle.master_call.specs.CallStep.{CallSteps};
 
 use crate::{held, here};
+use asked::Asked;
 use block::{at, bytes32};
 use images::numbers;
 use list_run::find;
 use master_step::step;
 
 pub fn transaction_step(
-    block: &mut [u8],
+    block: &mut [u8; 32],
     list: &[u8],
     written: usize,
     room: usize,
     answer: u16,
-) -> u64
-    requires { length block.old ≡ block_size }
+) -> Asked
     ensures { CallSteps 2 list.now written room answer block.old block.new result }
 {
     let address = bytes32::word_at(block, at::ADDRESS);
     let run = bytes32::word_at(block, at::RUN);
     if held::is_call_of(block, numbers::TRANSACTION) & (address <= 127) {
-        let found = find::find(list, written, room, run);
-        if !found.found {
-            return asked::refused();
-        }
+        let Some(found) = find::find(list, written, room, run) else {
+            return Asked::refused();
+        };
         let length = found.length as u16;
         let before = found.before as u16;
         let here = here::here_by(found.reading, length, before, found.more, 0);
         return step::step_in(block, here, answer);
     }
-    asked::refused()
+    Asked::refused()
 }

@@ -1,9 +1,9 @@
 // A step of a write-read: a run to write, and one to read.
-ghost use Rattle.std.specs.Prelude.{◌≡◌, [], length};
-ghost use Rattle.block.specs.Bytes32.{block_size};
+ghost use Rattle.std.specs.Prelude.{◌≡◌, []};
 ghost use Rattle.master_call.specs.CallStep.{CallSteps, few_enough};
 
 use crate::{held, here};
+use asked::Asked;
 use block::{at, bytes32};
 use images::numbers;
 use master_step::step;
@@ -18,8 +18,7 @@ fn few_enough(written: usize, room: usize) -> bool
     false
 }
 
-pub fn write_read_step(block: &mut [u8], written: usize, room: usize, answer: u16) -> u64
-    requires { length block.old ≡ block_size }
+pub fn write_read_step(block: &mut [u8; 32], written: usize, room: usize, answer: u16) -> Asked
     ensures { CallSteps 3 [] written room answer block.old block.new result }
 {
     let address = bytes32::word_at(block, at::ADDRESS);
@@ -34,5 +33,5 @@ pub fn write_read_step(block: &mut [u8], written: usize, room: usize, answer: u1
         let here = here::here_by(true, room as u16, 0, false, 0);
         return step::step_in(block, here, answer);
     }
-    asked::refused()
+    Asked::refused()
 }

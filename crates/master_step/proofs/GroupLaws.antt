@@ -1,12 +1,10 @@
 -- When a stage of a group is taken: its phase is one of the group's, and the group's own test holds.
 -- Assumes nothing.
-use Prim.Native.Nat.{ℕ, suc, ◌<◌, ◌≤◌}
-use native.Mathlib.Omega.{arith}
+use Prim.Native.Nat.{ℕ, ◌<◌}
 use mathlib.Core.Path.{◌≡◌, refl, sym, ◌∙◌}
 use mathlib.Core.Bool.{Bool, true, false, not, ◌&&◌}
-use mathlib.Core.List.{List}
 use lib.Dec.{ltb}
-use borrow.Author.Tests.{eqb-true, ne_eqb}
+use borrow.Author.Tests.{eqb-true}
 use Rattle.access.proofs.Choice.{first_true}
 use Rattle.operations.specs.declared.search.Run.{Run}
 use Rattle.master.specs.declared.call.Call.{Call}
@@ -21,23 +19,12 @@ use Rattle.stage_numbers.specs.MasterStage.{is_stage, stage_of, fall_number, fal
 use Rattle.stage_numbers.proofs.MasterStageRanges.{fall_range, fall_stage_range, flag_range, wait_stage_range}
 use Rattle.master_step.specs.declared.here.Here.{Here}
 use Rattle.master_step.specs.Going.{here_of, fits_fall_in, fits_wait_in}
-use Rattle.master_step.specs.Held.{Seen}
-use Rattle.master_step.proofs.Laws.{decides}
+use Rattle.master_step.proofs.Laws.{decides, Going}
 
 -- a test that a `!` stands before
 pub unset : (b : Bool) → not b ≡ true → b ≡ false
 unset true e = sym e
 unset false e = refl
-
-pub set : (b : Bool) → not b ≡ false → b ≡ true
-set true e = refl
-set false e = sym e
-
-pub in_phase : {t : Bool} (l b : Bool) → t ≡ l && b → l ≡ true → b ≡ true → t ≡ true
-in_phase l b e p q = rw (e, p, q)
-
-pub no_phase : {t : Bool} (l b : Bool) → t ≡ l && b → l ≡ false → t ≡ false
-no_phase l b e p = rw (e, p)
 
 and_false : (l : Bool) → l && false ≡ false
 and_false true = refl
@@ -59,14 +46,6 @@ fall_whole w b h e = eqb-true _ _ (fall_range w h ∙ first_true (ltb w 2) b e)
 pub flag_whole : (w : ℕ) (b : Bool) → w < 256 → ltb w 7 && b ≡ true → flag_number (flag_of w) ≡ w
 flag_whole w b h e = eqb-true _ _ (flag_range w h ∙ first_true (ltb w 7) b e)
 
--- a number that is none of those below n is n or more
-pub past : (n w : ℕ) → n ≤ w → (w ≡ n → ⊥) → suc n ≤ w
-past n w h e = omega arith
-
--- any other number tells RXNE
-pub rxne_told : (w : ℕ) → (w ≡ 0 → ⊥) → (w ≡ 1 → ⊥) → (w ≡ 2 → ⊥) → (w ≡ 3 → ⊥) → (w ≡ 4 → ⊥) → (w ≡ 5 → ⊥) → flag_of w ≡ Rxne
-rxne_told w n0 n1 n2 n3 n4 n5 = rw (ne_eqb _ _ n0, ne_eqb _ _ n1, ne_eqb _ _ n2, ne_eqb _ _ n3, ne_eqb _ _ n4, ne_eqb _ _ n5)
-
 module _ (c : Call) (r : Run) (d : Progress) where
   same_fall : (f : Fall) → fits_fall (setting_of c) r f d ≡ fits_fall_in (here_of c r d) d.left f
   same_fall fall.Start = refl
@@ -81,33 +60,21 @@ module _ (c : Call) (r : Run) (d : Progress) where
   same_wait Two = refl
   same_wait Rxne = refl
 
-module _ {c : Call} {r : Run} {d : Progress} {here : Here} {b : List ℕ} {g : ℕ} (left w p : ℕ) (s : Seen c r d here b g w p) (l : left ≡ d.left) (n : counts r d ≡ true) (h : w < 256) (k : p < 256) where
-  fall_decides : is_stage 1 w p && fits_at (setting_of c) r (stage_of 1 w p) d ≡ ltb p 2 && (ltb w 2 && fits_fall_in here left (fall_of w))
+module _ {c : Call} {r : Run} {d : Progress} {here : Here} (left w p : ℕ) (s : Going c r d here) (l : left ≡ d.left) (n : counts r d ≡ true) (h : w < 256) (k : p < 256) where
+  pub fall_decides : is_stage 1 w p && fits_at (setting_of c) r (stage_of 1 w p) d ≡ ltb p 2 && (ltb w 2 && fits_fall_in here left (fall_of w))
   unfolding is_stage
   fall_decides =
       rw (fall_range w h, fall_stage_range p k, decides r d (fits_fall (setting_of c) r (fall_of w) d) n s.ending, s.going, l, same_fall c r d (fall_of w))
       (parted (ltb w 2) (ltb p 2) (fits_fall_in (here_of c r d) d.left (fall_of w)))
 
-  pub fall_taken : ltb p 2 ≡ true → ltb w 2 && fits_fall_in here left (fall_of w) ≡ true → is_stage 1 w p && fits_at (setting_of c) r (stage_of 1 w p) d ≡ true
-  fall_taken = in_phase (ltb p 2) (ltb w 2 && fits_fall_in here left (fall_of w)) fall_decides
-
-  pub no_fall_phase : ltb p 2 ≡ false → is_stage 1 w p && fits_at (setting_of c) r (stage_of 1 w p) d ≡ false
-  no_fall_phase = no_phase (ltb p 2) (ltb w 2 && fits_fall_in here left (fall_of w)) fall_decides
-
   pub no_fall : ltb w 2 && fits_fall_in here left (fall_of w) ≡ false → is_stage 1 w p && fits_at (setting_of c) r (stage_of 1 w p) d ≡ false
   no_fall = no_fit (ltb p 2) (ltb w 2 && fits_fall_in here left (fall_of w)) fall_decides
 
-  wait_decides : is_stage 3 w p && fits_at (setting_of c) r (stage_of 3 w p) d ≡ ltb p 3 && (ltb w 7 && fits_wait_in here left (flag_of w))
+  pub wait_decides : is_stage 3 w p && fits_at (setting_of c) r (stage_of 3 w p) d ≡ ltb p 3 && (ltb w 7 && fits_wait_in here left (flag_of w))
   unfolding is_stage
   wait_decides =
       rw (flag_range w h, wait_stage_range p k, decides r d (fits_wait (setting_of c) r (flag_of w) d) n s.ending, s.going, l, same_wait c r d (flag_of w))
       (parted (ltb w 7) (ltb p 3) (fits_wait_in (here_of c r d) d.left (flag_of w)))
-
-  pub wait_taken : ltb p 3 ≡ true → ltb w 7 && fits_wait_in here left (flag_of w) ≡ true → is_stage 3 w p && fits_at (setting_of c) r (stage_of 3 w p) d ≡ true
-  wait_taken = in_phase (ltb p 3) (ltb w 7 && fits_wait_in here left (flag_of w)) wait_decides
-
-  pub no_wait_phase : ltb p 3 ≡ false → is_stage 3 w p && fits_at (setting_of c) r (stage_of 3 w p) d ≡ false
-  no_wait_phase = no_phase (ltb p 3) (ltb w 7 && fits_wait_in here left (flag_of w)) wait_decides
 
   pub no_wait : ltb w 7 && fits_wait_in here left (flag_of w) ≡ false → is_stage 3 w p && fits_at (setting_of c) r (stage_of 3 w p) d ≡ false
   no_wait = no_fit (ltb p 3) (ltb w 7 && fits_wait_in here left (flag_of w)) wait_decides

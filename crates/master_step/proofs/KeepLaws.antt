@@ -7,6 +7,7 @@ use mathlib.Core.List.{List}
 use lib.Dec.{eqb, ltb}
 use lib.ListN.{set}
 use borrow.Author.Tests.{eqb-true}
+use Rattle.std.specs.Prelude.{Some, None}
 use Rattle.registers.specs.Word.{field_of}
 use Rattle.registers.specs.Fields.{DATA}
 use Rattle.access.specs.Machine.{kept, is_end}
@@ -32,7 +33,7 @@ use Rattle.master.specs.declared.stage.Stage.TheVariants as stage
 use Rattle.master.specs.declared.state.Progress.{Progress}
 use Rattle.master.specs.Machine.{owed_fall, owed_launch, owed_wait, owed_address, owed_recv, owed_read, owed_stop, owed_abort, owed_at}
 use Rattle.stage_numbers.specs.MasterStage.{stage_group, stage_what, stage_phase, stage_of, is_stage, fall_stage_of, launch_stage_of, wait_stage_of, address_stage_of, read_stage_of, half_of, abort_stage_of}
-use Rattle.asked.specs.Asked.{is_keep}
+use Rattle.asked.specs.Asked.{is_keep, kept_place}
 
 pub recv_kept : (b : Bool) (d : Progress) → not b ≡ is_keep (owed_recv (cond b recv.Status recv.Data) d)
 recv_kept true d = refl
@@ -91,56 +92,56 @@ module _ (g : Setting) (d : Progress) where
       chosen (λ (st : Stage). false ≡ is_keep (owed_at g st d)) (eqb n 0) (λ _. refl) (λ _. chosen (λ (st : Stage). false ≡ is_keep (owed_at g st d)) (eqb n 1) (λ _. none_fall (fall_stage_of p)) (λ _. chosen (λ (st : Stage). false ≡ is_keep (owed_at g st d)) (eqb n 2) (λ _. none_launch (launch_stage_of p)) (λ _. chosen (λ (st : Stage). false ≡ is_keep (owed_at g st d)) (eqb n 3) (λ _. none_wait (wait_stage_of p)) (λ _. chosen (λ (st : Stage). false ≡ is_keep (owed_at g st d)) (eqb n 4) (λ _. none_address (address_stage_of p)) (λ _. chosen (λ (st : Stage). false ≡ is_keep (owed_at g st d)) (eqb n 5) (λ _. refl) (λ _. chosen (λ (st : Stage). false ≡ is_keep (owed_at g st d)) (eqb n 6) (λ k. absurd (n6 (eqb-true n 6 k))) (λ _. chosen (λ (st : Stage). false ≡ is_keep (owed_at g st d)) (eqb n 7) (λ k. absurd (n7 (eqb-true n 7 k))) (λ _. chosen (λ (st : Stage). false ≡ is_keep (owed_at g st d)) (eqb n 8) (λ _. none_half (half_of p)) (λ _. chosen (λ (st : Stage). false ≡ is_keep (owed_at g st d)) (eqb n 9) (λ _. none_abort (abort_stage_of p)) (λ _. refl))))))))))
 
   -- an answer is kept at the block's place, or not at all
-  pub kept_at : (st : Stage) (a : ℕ) (bytes : List ℕ) → kept (owed_at g st d) a bytes ≡ cond (is_keep (owed_at g st d)) (set bytes d.place (field_of DATA a)) bytes
-  kept_at stage.Begin a bytes = refl
-  kept_at (stage.WaitStop f fall.Control) a bytes = refl
-  kept_at (stage.WaitStop f fall.Clock) a bytes = refl
-  kept_at (stage.LaunchStart launch.Control) a bytes = refl
-  kept_at (stage.LaunchStart launch.Status) a bytes = refl
-  kept_at (stage.LaunchStart launch.Read) a bytes = refl
-  kept_at (stage.LaunchStart launch.Write) a bytes = refl
-  kept_at (stage.Wait f wait.Status) a bytes = refl
-  kept_at (stage.Wait f wait.Clear) a bytes = refl
-  kept_at (stage.Wait f wait.Clock) a bytes = refl
-  kept_at (stage.Address address.Control) a bytes = refl
-  kept_at (stage.Address address.Master) a bytes = refl
-  kept_at (stage.Address address.Word) a bytes = refl
-  kept_at (stage.Address address.Cleared) a bytes = refl
-  kept_at stage.SendByte a bytes = refl
-  kept_at (stage.RecvByte recv.Status) a bytes = refl
-  kept_at (stage.RecvByte recv.Data) a bytes = refl
-  kept_at (stage.ReadIter read.PosWrite) a bytes = refl
-  kept_at (stage.ReadIter read.AckRead) a bytes = refl
-  kept_at (stage.ReadIter read.AckWrite) a bytes = refl
-  kept_at (stage.ReadIter read.StartRead) a bytes = refl
-  kept_at (stage.ReadIter read.StartWrite) a bytes = refl
-  kept_at (stage.ReadIter read.NackRead) a bytes = refl
-  kept_at (stage.ReadIter read.NackWrite) a bytes = refl
-  kept_at (stage.ReadIter read.Third) a bytes = refl
-  kept_at (stage.ReadIter read.AgainRead) a bytes = refl
-  kept_at (stage.ReadIter read.AgainWrite) a bytes = refl
-  kept_at (stage.ReadIter read.SecondLast) a bytes = refl
-  kept_at (stage.ReadIter read.Last) a bytes = refl
-  kept_at (stage.ReadIter read.PosOffRead) a bytes = refl
-  kept_at (stage.ReadIter read.PosOffWrite) a bytes = refl
-  kept_at (stage.GenerateStop k half.Read) a bytes = refl
-  kept_at (stage.GenerateStop k half.Write) a bytes = refl
-  kept_at (stage.Abort abort.FinishRead) a bytes = refl
-  kept_at (stage.Abort abort.FinishWrite) a bytes = refl
-  kept_at (stage.Abort abort.Control) a bytes = refl
-  kept_at (stage.Abort abort.Frequency) a bytes = refl
-  kept_at (stage.Abort abort.Divider) a bytes = refl
-  kept_at (stage.Abort abort.Rise) a bytes = refl
-  kept_at (stage.Abort abort.Reset) a bytes = refl
-  kept_at (stage.Abort abort.Release) a bytes = refl
-  kept_at (stage.Abort abort.PutFrequency) a bytes = refl
-  kept_at (stage.Abort abort.PutDivider) a bytes = refl
-  kept_at (stage.Abort abort.PutRise) a bytes = refl
-  kept_at (stage.Abort abort.Enable) a bytes = refl
-  kept_at (stage.Abort abort.Master) a bytes = refl
-  kept_at (stage.Abort abort.StopRead) a bytes = refl
-  kept_at (stage.Abort abort.StopWrite) a bytes = refl
-  kept_at stage.Ended a bytes = refl
+  pub place_at : (st : Stage) → kept_place (owed_at g st d) ≡ cond (is_keep (owed_at g st d)) (Some d.place) None
+  place_at stage.Begin = refl
+  place_at (stage.WaitStop f fall.Control) = refl
+  place_at (stage.WaitStop f fall.Clock) = refl
+  place_at (stage.LaunchStart launch.Control) = refl
+  place_at (stage.LaunchStart launch.Status) = refl
+  place_at (stage.LaunchStart launch.Read) = refl
+  place_at (stage.LaunchStart launch.Write) = refl
+  place_at (stage.Wait f wait.Status) = refl
+  place_at (stage.Wait f wait.Clear) = refl
+  place_at (stage.Wait f wait.Clock) = refl
+  place_at (stage.Address address.Control) = refl
+  place_at (stage.Address address.Master) = refl
+  place_at (stage.Address address.Word) = refl
+  place_at (stage.Address address.Cleared) = refl
+  place_at stage.SendByte = refl
+  place_at (stage.RecvByte recv.Status) = refl
+  place_at (stage.RecvByte recv.Data) = refl
+  place_at (stage.ReadIter read.PosWrite) = refl
+  place_at (stage.ReadIter read.AckRead) = refl
+  place_at (stage.ReadIter read.AckWrite) = refl
+  place_at (stage.ReadIter read.StartRead) = refl
+  place_at (stage.ReadIter read.StartWrite) = refl
+  place_at (stage.ReadIter read.NackRead) = refl
+  place_at (stage.ReadIter read.NackWrite) = refl
+  place_at (stage.ReadIter read.Third) = refl
+  place_at (stage.ReadIter read.AgainRead) = refl
+  place_at (stage.ReadIter read.AgainWrite) = refl
+  place_at (stage.ReadIter read.SecondLast) = refl
+  place_at (stage.ReadIter read.Last) = refl
+  place_at (stage.ReadIter read.PosOffRead) = refl
+  place_at (stage.ReadIter read.PosOffWrite) = refl
+  place_at (stage.GenerateStop k half.Read) = refl
+  place_at (stage.GenerateStop k half.Write) = refl
+  place_at (stage.Abort abort.FinishRead) = refl
+  place_at (stage.Abort abort.FinishWrite) = refl
+  place_at (stage.Abort abort.Control) = refl
+  place_at (stage.Abort abort.Frequency) = refl
+  place_at (stage.Abort abort.Divider) = refl
+  place_at (stage.Abort abort.Rise) = refl
+  place_at (stage.Abort abort.Reset) = refl
+  place_at (stage.Abort abort.Release) = refl
+  place_at (stage.Abort abort.PutFrequency) = refl
+  place_at (stage.Abort abort.PutDivider) = refl
+  place_at (stage.Abort abort.PutRise) = refl
+  place_at (stage.Abort abort.Enable) = refl
+  place_at (stage.Abort abort.Master) = refl
+  place_at (stage.Abort abort.StopRead) = refl
+  place_at (stage.Abort abort.StopWrite) = refl
+  place_at stage.Ended = refl
 
   open_at : (st : Stage) → not (is_end (owed_at g st d)) ≡ ltb (stage_group st) 10
   open_at stage.Begin = refl

@@ -1,19 +1,17 @@
--- What the tests before a step find: all that the step asks for, and no block fails them that holds a stage that fits.
+-- What the tests before a step find.
 -- Assumes nothing.
-use Prim.Native.Nat.{ℕ}
-use native.Mathlib.Omega.{arith}
+use Prim.Native.Nat.{ℕ, ◌+◌}
 use mathlib.Core.Path.{◌≡◌, refl, sym, ap, ◌∙◌}
-use mathlib.Core.Bool.{Bool, true, false, beq, cond, ◌&&◌, ◌||◌, true≢false}
-use mathlib.Core.List.{List}
-use lib.Dec.{eqb, ltb}
-use borrow.Author.Tests.{eqb-true, eq-eqb, ne_eqb}
-use Rattle.access.proofs.EndingLaws.{ended_done}
+use mathlib.Core.Bool.{Bool, true, false, beq, ◌&&◌, true≢false}
+use lib.Dec.{eqb, leb, ltb}
+use borrow.Author.Tests.{eqb-true}
+use Rattle.access.proofs.Choice.{both_true, first_true, second_true}
 use Rattle.access.specs.Endings.{is_done}
 use Rattle.errors.specs.Met.{has_failed}
-use Rattle.access.proofs.Choice.{both_true, first_true, second_true}
+use Rattle.images.specs.EndImage.{ending_at}
 use Rattle.images.specs.Numbers.{flag_number}
+use Rattle.images.proofs.EndImageLaws as end
 use Rattle.operations.specs.declared.search.Run.{Run}
-use Rattle.operations.specs.Operations.{is_read}
 use Rattle.master.specs.declared.call.Call.{Call}
 use Rattle.master.specs.declared.stage.Stage.{Stage}
 use Rattle.master.specs.declared.stage.Stage.TheVariants as stage
@@ -22,42 +20,27 @@ use Rattle.master.specs.Fits.{counts, runs, fits_at, fits_fall, fits_wait, fits_
 use Rattle.master.specs.Calls.{setting_of}
 use Rattle.stage_numbers.specs.MasterStage.{stage_group, stage_what, stage_phase, stage_of, is_stage}
 use Rattle.master_step.specs.declared.here.Here.{Here}
-use Rattle.master_step.specs.Going.{here_in}
-use Rattle.master_step.specs.Held.{block_at, Ready, ready_at}
+use Rattle.master_step.specs.Held.{block_at, run_in, ready_at}
+use Rattle.master_step.proofs.Laws.{end_at}
 
--- ---- the tests
+pub end_told : (c : Call) (d : Progress) (g w p : ℕ) → ending_at (block_at c d g w p) ≡ d.ending
+end_told c d g w p = end.end_told (end_at c d g w p)
 
-pub same_flag : (a b : Bool) → eqb (flag_number a) (flag_number b) ≡ beq b a
-same_flag true true = refl
-same_flag true false = refl
-same_flag false true = refl
-same_flag false false = refl
+same_flag : (h : Here) (d : Progress) (a b : Bool) → eqb (flag_number a) (flag_number b) ≡ beq b a
+same_flag h d true true = refl
+same_flag h d true false = refl
+same_flag h d false true = refl
+same_flag h d false false = refl
 
--- ---- what they give
+-- the counts of the run that is known of
+pub same_counts : (h : Here) (d : Progress) → eqb (flag_number d.reading) (flag_number h.reading) && (leb d.left h.length && eqb (d.place + d.left) (h.before + h.length)) ≡ counts (run_in h) d
+same_counts h d = go h.reading
+  where
+    go : (b : Bool) → eqb (flag_number d.reading) (flag_number b) && (leb d.left h.length && eqb (d.place + d.left) (h.before + h.length)) ≡ counts (run_in (record { reading = b; length = h.length; before = h.before; more = h.more; start = h.start; stops = h.stops; nack = h.nack })) d
+    go true = rw (same_flag h d d.reading true) refl
+    go false = rw (same_flag h d d.reading false) refl
 
-only_second : (a b : Bool) → a ≡ false → a || b ≡ true → b ≡ true
-only_second true b e h = absurd (true≢false e)
-only_second false b e h = h
-
-module _ (c : Call) (r : Run) (d : Progress) {here : Here} {b : List ℕ} (group w p : ℕ) where
-  pub ready : b ≡ block_at c d group w p → here ≡ here_in c r (is_read r.direction) → ready_at c.chip group r d ≡ true → Ready c r d here b group w p
-  ready held going e =
-      record {
-        held = held;
-        going = going;
-        counted = λ h k. only_second (eqb group 0) (counts r d) (ne_eqb group 0 (λ z. omega arith)) (first_true (eqb group 0 || counts r d) (ends (eqb group 9)) e);
-        unhurt = λ h. ended_done d.ending (second_true (ltb group 9) (is_done d.ending) (tested (ne_eqb group 9 (λ z. omega arith))));
-        hurt = λ h. tested (eq-eqb group 9 h);
-      }
-    where
-      ends : Bool → Bool
-      ends b = cond b (has_failed c.chip true d.ending) (ltb group 9 && is_done d.ending)
-
-      tested : {b : Bool} → eqb group 9 ≡ b → ends b ≡ true
-      tested q = ap ends (sym q) ∙ second_true (eqb group 0 || counts r d) (ends (eqb group 9)) e
-
--- ---- and that they refuse nothing else
-
+-- ---- and that they ref
 pub not_true : (b : Bool) → (b ≡ true → ⊥) → b ≡ false
 not_true true h = absurd (h refl)
 not_true false h = refl

@@ -24,25 +24,25 @@ use Rattle.master.specs.declared.state.Move.{Move}
 use Rattle.master.specs.Machine.{owed_at, advance_at, byte_done, stops_here, finished, read_bytes}
 use Rattle.master.specs.Fits.{counts, runs, fits_at, receiving, last_ones}
 use Rattle.master.specs.Calls.{setting_of}
-use Rattle.asked.specs.Asked.{Asks, is_keep}
+use Rattle.asked.specs.Asked.{is_keep, need_number}
 use Rattle.access.proofs.EndingLaws.{ended_done}
 
 module _ (c : Call) (r : Run) where
   -- what is asked for there is not a refusal
   abbrev Goes_on : Move → Type 0
-  Goes_on m = (n : ℕ) → Asks n (owed_at (setting_of c) m.stage m.progress) → n ≡ 3840 → ⊥
+  Goes_on m = (n : ℕ) → n ≡ need_number (owed_at (setting_of c) m.stage m.progress) → n ≡ 3840 → ⊥
 
   finished_on : (d : Progress) → d.ending ≡ done → Goes_on (finished (setting_of c) r d)
   finished_on d e =
       chosen Goes_on (stops_here (setting_of c) r)
-      (λ _. chosen Goes_on d.reading (λ _ n q h. let k = q.number in omega arith) (λ _ n q h. let k = q.number in omega arith))
-      (λ _. chosen Goes_on r.more (λ _ n q h. let k = q.number in omega arith) (λ _ n q h. let k : n ≡ 0 = q.number ∙ ap ending_number e in omega arith))
+      (λ _. chosen Goes_on d.reading (λ _ n q h. let k = q in omega arith) (λ _ n q h. let k = q in omega arith))
+      (λ _. chosen Goes_on r.more (λ _ n q h. let k = q in omega arith) (λ _ n q h. let k : n ≡ 0 = q ∙ ap ending_number e in omega arith))
 
   read_on : (d : Progress) → d.ending ≡ done → Goes_on (read_bytes (setting_of c) r d)
   read_on d e =
       chosen Goes_on (eqb d.left 0) (λ _. finished_on d e)
-      (λ _. chosen Goes_on ((setting_of c).frame.send_nack && eqb d.left 2) (λ _ n q h. let k = q.number in omega arith)
-      (λ _. chosen Goes_on ((setting_of c).frame.send_nack && eqb d.left 3) (λ _ n q h. let k = q.number in omega arith) (λ _ n q h. let k = q.number in omega arith)))
+      (λ _. chosen Goes_on ((setting_of c).frame.send_nack && eqb d.left 2) (λ _ n q h. let k = q in omega arith)
+      (λ _. chosen Goes_on ((setting_of c).frame.send_nack && eqb d.left 3) (λ _ n q h. let k = q in omega arith) (λ _ n q h. let k = q in omega arith)))
 
 module _ (c : Call) (r : Run) (d : Progress) where
   done_in : (b : Bool) → runs r b d ≡ true → d.ending ≡ done
@@ -50,7 +50,7 @@ module _ (c : Call) (r : Run) (d : Progress) where
 
   -- what follows a byte to keep is not a refusal
   pub goes_on : (st : Stage) (a n : ℕ) → fits_at (setting_of c) r st d ≡ true → is_keep (owed_at (setting_of c) st d) ≡ true
-      → Asks n (owed_at (setting_of c) (advance_at (setting_of c) r st d a).stage (advance_at (setting_of c) r st d a).progress) → n ≡ 3840 → ⊥
+      → n ≡ need_number (owed_at (setting_of c) (advance_at (setting_of c) r st d a).stage (advance_at (setting_of c) r st d a).progress) → n ≡ 3840 → ⊥
   goes_on stage.Begin a n fit k q = absurd (true≢false (sym k))
   goes_on (stage.WaitStop f fall.Control) a n fit k q = absurd (true≢false (sym k))
   goes_on (stage.WaitStop f fall.Clock) a n fit k q = absurd (true≢false (sym k))
@@ -75,10 +75,10 @@ module _ (c : Call) (r : Run) (d : Progress) where
   goes_on (stage.ReadIter read.StartWrite) a n fit k q = absurd (true≢false (sym k))
   goes_on (stage.ReadIter read.NackRead) a n fit k q = absurd (true≢false (sym k))
   goes_on (stage.ReadIter read.NackWrite) a n fit k q = absurd (true≢false (sym k))
-  goes_on (stage.ReadIter read.Third) a n fit k q = λ e. let k = q.number in omega arith
+  goes_on (stage.ReadIter read.Third) a n fit k q = λ e. let k = q in omega arith
   goes_on (stage.ReadIter read.AgainRead) a n fit k q = absurd (true≢false (sym k))
   goes_on (stage.ReadIter read.AgainWrite) a n fit k q = absurd (true≢false (sym k))
-  goes_on (stage.ReadIter read.SecondLast) a n fit k q = λ e. let k = q.number in omega arith
+  goes_on (stage.ReadIter read.SecondLast) a n fit k q = λ e. let k = q in omega arith
   goes_on (stage.ReadIter read.Last) a n fit k q = finished_on c r (byte_done d) (done_in (last_ones (setting_of c) r 1 d) fit) n q
   goes_on (stage.ReadIter read.PosOffRead) a n fit k q = absurd (true≢false (sym k))
   goes_on (stage.ReadIter read.PosOffWrite) a n fit k q = absurd (true≢false (sym k))

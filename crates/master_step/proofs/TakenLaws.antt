@@ -3,14 +3,11 @@
 use Prim.Native.Nat.{ℕ, ◌<◌}
 use mathlib.Core.Path.{◌≡◌, refl, sym, ◌∙◌}
 use mathlib.Core.Bool.{Bool, true, false, ◌&&◌}
-use mathlib.Core.List.{List}
 use lib.Dec.{eqb, ltb}
-use borrow.Author.Tests.{eqb-true, ne_eqb}
+use borrow.Author.Tests.{eqb-true}
 use Rattle.access.proofs.Choice.{first_true}
 use Rattle.operations.specs.declared.search.Run.{Run}
 use Rattle.master.specs.declared.call.Call.{Call}
-use Rattle.master.specs.declared.stage.LaunchStage.TheVariants as launch
-use Rattle.master.specs.declared.stage.AddressStage.TheVariants as address
 use Rattle.master.specs.declared.stage.ReadStage.{ReadStage}
 use Rattle.master.specs.declared.stage.ReadStage.TheVariants as read
 use Rattle.master.specs.declared.stage.StopFor.{StopFor}
@@ -18,14 +15,13 @@ use Rattle.master.specs.declared.stage.StopFor.TheVariants as stop
 use Rattle.master.specs.declared.state.Progress.{Progress}
 use Rattle.master.specs.Fits.{counts, fits_at, fits_read, fits_stop, starting, sending, receiving}
 use Rattle.master.specs.Calls.{setting_of}
-use Rattle.stage_numbers.specs.MasterStage.{is_stage, stage_of, launch_stage_of, address_stage_of, read_stage_of, stop_for_number, stop_for_of}
+use Rattle.stage_numbers.specs.MasterStage.{is_stage, stage_of, read_stage_of, stop_for_number, stop_for_of}
 use Rattle.access.proofs.Compared.{turned, joined}
 use Rattle.stage_numbers.proofs.MasterStageRanges.{launch_stage_range, address_stage_range, recv_stage_range, read_stage_range, stop_for_range, half_range}
 use Rattle.master_step.specs.declared.here.Here.{Here}
 use Rattle.master_step.specs.Going.{here_of, starting_in, sending_in, receiving_in, fits_read_in, fits_stop_in}
-use Rattle.master_step.specs.Held.{Seen}
-use Rattle.master_step.proofs.Laws.{decides}
-use Rattle.master_step.proofs.GroupLaws.{parted, in_phase, no_phase, no_fit}
+use Rattle.master_step.proofs.Laws.{decides, Going}
+use Rattle.master_step.proofs.GroupLaws.{parted, no_fit}
 
 -- a group with one kind of stages has 0 in the place of what it is for
 pub zero_told : (w : ℕ) (b : Bool) → eqb w 0 && b ≡ true → 0 ≡ w
@@ -33,20 +29,6 @@ zero_told w b e = sym (eqb-true w 0 (first_true (eqb w 0) b e))
 
 pub stop_whole : (w : ℕ) (b : Bool) → w < 256 → ltb w 3 && b ≡ true → stop_for_number (stop_for_of w) ≡ w
 stop_whole w b h e = eqb-true _ _ (stop_for_range w h ∙ first_true (ltb w 3) b e)
-
--- any other number tells the last
-pub cleared_told : (p : ℕ) → (p ≡ 0 → ⊥) → (p ≡ 1 → ⊥) → (p ≡ 2 → ⊥) → address_stage_of p ≡ address.Cleared
-cleared_told p n0 n1 n2 = rw (ne_eqb _ _ n0, ne_eqb _ _ n1, ne_eqb _ _ n2)
-
-pub launch_write_told : (p : ℕ) → (p ≡ 0 → ⊥) → (p ≡ 1 → ⊥) → (p ≡ 2 → ⊥) → launch_stage_of p ≡ launch.Write
-launch_write_told p n0 n1 n2 = rw (ne_eqb _ _ n0, ne_eqb _ _ n1, ne_eqb _ _ n2)
-
-pub stop_two_told : (w : ℕ) → (w ≡ 0 → ⊥) → (w ≡ 1 → ⊥) → stop_for_of w ≡ stop.Two
-stop_two_told w n0 n1 = rw (ne_eqb _ _ n0, ne_eqb _ _ n1)
-
-pub pos_off_told : (p : ℕ) → (p ≡ 0 → ⊥) → (p ≡ 1 → ⊥) → (p ≡ 2 → ⊥) → (p ≡ 3 → ⊥) → (p ≡ 4 → ⊥) → (p ≡ 5 → ⊥) → (p ≡ 6 → ⊥) → (p ≡ 7 → ⊥) → (p ≡ 8 → ⊥) → (p ≡ 9 → ⊥) → (p ≡ 10 → ⊥) → (p ≡ 11 → ⊥) → (p ≡ 12 → ⊥) → read_stage_of p ≡ read.PosOffWrite
-pos_off_told p n0 n1 n2 n3 n4 n5 n6 n7 n8 n9 n10 n11 n12 =
-    rw (ne_eqb _ _ n0, ne_eqb _ _ n1, ne_eqb _ _ n2, ne_eqb _ _ n3, ne_eqb _ _ n4, ne_eqb _ _ n5, ne_eqb _ _ n6, ne_eqb _ _ n7, ne_eqb _ _ n8, ne_eqb _ _ n9, ne_eqb _ _ n10, ne_eqb _ _ n11, ne_eqb _ _ n12)
 
 module _ (c : Call) (r : Run) (d : Progress) where
   same_read : (st : ReadStage) → fits_read (setting_of c) r st d ≡ fits_read_in (here_of c r d) d.left st
@@ -70,7 +52,7 @@ module _ (c : Call) (r : Run) (d : Progress) where
   same_stop stop.One = refl
   same_stop stop.Two = refl
 
-module _ {c : Call} {r : Run} {d : Progress} {here : Here} {b : List ℕ} {g : ℕ} (left w p : ℕ) (s : Seen c r d here b g w p) (l : left ≡ d.left) (n : counts r d ≡ true) (h : w < 256) (k : p < 256) where
+module _ {c : Call} {r : Run} {d : Progress} {here : Here} (left w p : ℕ) (s : Going c r d here) (l : left ≡ d.left) (n : counts r d ≡ true) (h : w < 256) (k : p < 256) where
   pub send_decides : is_stage 5 w p && fits_at (setting_of c) r (stage_of 5 w p) d ≡ eqb w 0 && (eqb p 0 && sending_in here left)
   unfolding is_stage
   send_decides =
@@ -101,17 +83,11 @@ module _ {c : Call} {r : Run} {d : Progress} {here : Here} {b : List ℕ} {g : �
       rw (turned 0 w, read_stage_range p k, decides r d (fits_read (setting_of c) r (read_stage_of p) d) n s.ending, s.going, l, same_read c r d (read_stage_of p))
       (joined (eqb w 0) (ltb p 14) (fits_read_in (here_of c r d) d.left (read_stage_of p)))
 
-  stop_decides : is_stage 8 w p && fits_at (setting_of c) r (stage_of 8 w p) d ≡ ltb p 2 && (ltb w 3 && fits_stop_in here left (stop_for_of w))
+  pub stop_decides : is_stage 8 w p && fits_at (setting_of c) r (stage_of 8 w p) d ≡ ltb p 2 && (ltb w 3 && fits_stop_in here left (stop_for_of w))
   unfolding is_stage
   stop_decides =
       rw (stop_for_range w h, half_range p k, decides r d (fits_stop (setting_of c) r (stop_for_of w) d) n s.ending, s.going, l, same_stop c r d (stop_for_of w))
       (parted (ltb w 3) (ltb p 2) (fits_stop_in (here_of c r d) d.left (stop_for_of w)))
-
-  pub stop_taken : ltb p 2 ≡ true → ltb w 3 && fits_stop_in here left (stop_for_of w) ≡ true → is_stage 8 w p && fits_at (setting_of c) r (stage_of 8 w p) d ≡ true
-  stop_taken = in_phase (ltb p 2) (ltb w 3 && fits_stop_in here left (stop_for_of w)) stop_decides
-
-  pub no_stop_phase : ltb p 2 ≡ false → is_stage 8 w p && fits_at (setting_of c) r (stage_of 8 w p) d ≡ false
-  no_stop_phase = no_phase (ltb p 2) (ltb w 3 && fits_stop_in here left (stop_for_of w)) stop_decides
 
   pub no_stop : ltb w 3 && fits_stop_in here left (stop_for_of w) ≡ false → is_stage 8 w p && fits_at (setting_of c) r (stage_of 8 w p) d ≡ false
   no_stop = no_fit (ltb p 2) (ltb w 3 && fits_stop_in here left (stop_for_of w)) stop_decides

@@ -1,17 +1,19 @@
 // Before a run's first access: CTLR1 is read, for POS in a read, and in a write for STOP.
-ghost use Rattle.std.specs.Prelude.{◌≡◌, length};
-ghost use Rattle.block.specs.Bytes32.{block_size};
+ghost use Rattle.std.specs.Prelude.{◌≡◌};
+ghost use Rattle.master.specs.Machine.{begins, begun};
 ghost use Rattle.master_step.specs.Going.{fits_begin_in};
-ghost use Rattle.master_step.specs.Held.{Beginning};
+ghost use Rattle.master_step.specs.Held.{stand_in, call_in, progress_in, run_in, Moves, Unbegun, Beginning};
 
 use crate::here::Here;
+use crate::input::Input;
 use crate::{put, stage, start};
+use asked::Asked;
 use block::{at, bytes32};
 use registers::{Register, bits, word};
 
 // The block has nothing of the run yet, and the run has a first access: a read changes POS, and a START waits for STOP to fall.
-fn fits_begin(block: &[u8], here: Here, left: u16, what: u8, phase: u8) -> bool
-    requires { length block.now ≡ block_size }
+#[tactic(auto, unfolding(crate::specs::Going::fits_begin_in))]
+fn fits_begin(block: &[u8; 32], here: Here, left: u16, what: u8, phase: u8) -> bool
     ensures { result ≡ fits_begin_in here left what phase block.now }
 {
     (what == 0)
@@ -22,28 +24,34 @@ fn fits_begin(block: &[u8], here: Here, left: u16, what: u8, phase: u8) -> bool
 }
 
 // The run begins, by the first answer: ctlr1.modify(set_pos(..)) in a read, and in a write the first word of wait_stop_finished.
-pub fn begins(block: &mut [u8], here: Here, left: u16, what: u8, phase: u8, answer: u16) -> u64
-    requires { length block.old ≡ block_size }
-    ensures { Beginning here left what phase answer block.old block.new result }
+#[tactic(auto, using(crate::proofs::Laws::stand_back, crate::proofs::Laws::image, crate::proofs::Laws::direction_told))]
+fn begin_run(block: &mut [u8; 32], here: Here, input: Input) -> Asked
+    ensures { Unbegun here input.left (stand_in block.old) block.old → Moves (call_in block.old) (begins (begun (run_in here) (progress_in block.old)) input.answer) block.new result }
 {
-    if !fits_begin(block, here, left, what, phase) {
-        return asked::refused();
-    }
     put::begun(block, here);
     if here.reading {
         let two = (here.length == 2) & here.nack;
-        put::saves(block, answer);
+        put::saves(block, input.answer);
         put::to(block, stage::READ_ITER, 0, stage::POS_WRITE);
-        return asked::write(Register::Ctlr1, word::put_bit(answer, bits::POS, two));
+        return Asked::write(Register::Ctlr1, word::put_bit(input.answer, bits::POS, two));
     }
-    if word::bit(answer, bits::STOP) {
+    if word::bit(input.answer, bits::STOP) {
         put::to(
             block,
             stage::WAIT_STOP,
             stage::FALL_START,
             stage::FALL_CLOCK,
         );
-        return asked::clock();
+        return Asked::clock();
     }
     start::fallen(block, here, here.length, stage::FALL_START)
+}
+
+pub fn begins(block: &mut [u8; 32], here: Here, input: Input) -> Asked
+    ensures { Beginning here input block.old block.new result }
+{
+    if !fits_begin(block, here, input.left, input.what, input.phase) {
+        return Asked::refused();
+    }
+    begin_run(block, here, input)
 }

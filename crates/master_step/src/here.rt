@@ -2,6 +2,8 @@
 ghost use Rattle.std.specs.Prelude.{◌≡◌, ◌&&◌, eqb, ltb};
 ghost use Rattle.master_step.specs.Going.{starting_in, closing_in, sending_in, receiving_in, last_ones_in, single_in};
 
+use crate::input::Input;
+
 #[derive(Clone, Copy)]
 pub struct Here {
     // The run: its direction, its bytes, the place of the first of them, and whether another run follows.
@@ -23,10 +25,10 @@ pub fn starting(here: Here, left: u16) -> bool
 }
 
 // A stage there that is one of four parts.
-pub fn fits_starting(here: Here, left: u16, what: u8, phase: u8) -> bool
-    ensures { result ≡ eqb what 0 && (ltb phase 4 && starting_in here left) }
+pub fn fits_starting(here: Here, input: Input) -> bool
+    ensures { result ≡ eqb input.what 0 && (ltb input.phase 4 && starting_in here input.left) }
 {
-    (what == 0) & ((phase < 4) & starting(here, left))
+    (input.what == 0) & ((input.phase < 4) & starting(here, input.left))
 }
 
 // All bytes are moved, and STOP is asked.

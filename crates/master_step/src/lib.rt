@@ -7,6 +7,7 @@ pub mod address;
 pub mod begin;
 pub mod go;
 pub mod here;
+pub mod input;
 pub mod keep;
 pub mod put;
 pub mod read;
@@ -19,3 +20,4 @@ pub mod stop;
 pub mod wait;
 
 pub use here::Here;
+pub use input::Input;

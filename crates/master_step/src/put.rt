@@ -1,22 +1,17 @@
 // The bytes that a move changes, and no others.
-ghost use Rattle.std.specs.Prelude.{◌≡◌, ℕ, pred, ◌+◌, ◌*◌, ◌≤◌, length};
-ghost use Rattle.block.specs.Bytes32.{block_size, word_at};
-ghost use Rattle.master.specs.declared.call.Call.{Call};
-ghost use Rattle.master.specs.declared.state.Progress.{Progress};
-ghost use Rattle.master.specs.Machine.{saves, saves_divider, saves_rise, byte_done, begun, next_run, next16};
-ghost use Rattle.operations.specs.Operations.{is_read};
-ghost use Rattle.operations.specs.declared.search.Run.{Run};
-ghost use Rattle.master_step.specs.Going.{here_in};
-ghost use Rattle.master_step.specs.Held.{Puts, block_at, kept};
+ghost use Rattle.std.specs.Prelude.{◌≡◌, pred, Err};
+ghost use Rattle.master.specs.Machine.{ends_with, saves, saves_divider, saves_rise, byte_done, begun, next_run, next16};
+ghost use Rattle.master_step.specs.Held.{Puts, at_stage, at_phase, on, progress_in, run_in};
 
 use crate::here::Here;
+use access::Failure;
 use block::{at, bytes32};
-use images::numbers;
+use images::{end_image, numbers};
 
 // On to another stage.
-pub fn to(block: &mut [u8], group: u8, what: u8, phase: u8)
-    requires { length block.old ≡ block_size }
-    ensures { Puts block.old block.new (λ (d : Progress). d) (λ (_ : ℕ). group) (λ (_ : ℕ). what) (λ (_ : ℕ). phase) }
+#[tactic(auto, using(crate::proofs::Laws::to_stage))]
+pub fn to(block: &mut [u8; 32], group: u8, what: u8, phase: u8)
+    ensures { Puts block.old block.new (at_stage group what phase) }
 {
     block[at::GROUP] = group;
     block[at::WHAT] = what;
@@ -24,37 +19,34 @@ pub fn to(block: &mut [u8], group: u8, what: u8, phase: u8)
 }
 
 // On to another phase of the stage.
-pub fn phase(block: &mut [u8], phase: u8)
-    requires { length block.old ≡ block_size }
-    ensures { Puts block.old block.new (λ (d : Progress). d) kept kept (λ (_ : ℕ). phase) }
+#[tactic(auto, using(crate::proofs::Laws::to_phase))]
+pub fn phase(block: &mut [u8; 32], phase: u8)
+    ensures { Puts block.old block.new (at_phase phase) }
 {
     block[at::PHASE] = phase;
 }
 
 // The word of the last read.
-pub fn saves(block: &mut [u8], word: u16)
-    requires { length block.old ≡ block_size }
-    ensures { Puts block.old block.new (saves word) kept kept kept }
+#[tactic(auto, using(crate::proofs::Laws::saved))]
+pub fn saves(block: &mut [u8; 32], word: u16)
+    ensures { Puts block.old block.new (on (saves word)) }
 {
-    block[at::WORD] = (word % 256) as u8;
-    block[at::WORD + 1] = (word / 256) as u8;
+    bytes32::put_word(block, at::WORD, word);
 }
 
 // The words that an abort reads before its reset.
-pub fn saves_divider(block: &mut [u8], word: u16)
-    requires { length block.old ≡ block_size }
-    ensures { Puts block.old block.new (saves_divider word) kept kept kept }
+#[tactic(auto, using(crate::proofs::Laws::saved_divider))]
+pub fn saves_divider(block: &mut [u8; 32], word: u16)
+    ensures { Puts block.old block.new (on (saves_divider word)) }
 {
-    block[at::DIVIDER] = (word % 256) as u8;
-    block[at::DIVIDER + 1] = (word / 256) as u8;
+    bytes32::put_word(block, at::DIVIDER, word);
 }
 
-pub fn saves_rise(block: &mut [u8], word: u16)
-    requires { length block.old ≡ block_size }
-    ensures { Puts block.old block.new (saves_rise word) kept kept kept }
+#[tactic(auto, using(crate::proofs::Laws::saved_rise))]
+pub fn saves_rise(block: &mut [u8; 32], word: u16)
+    ensures { Puts block.old block.new (on (saves_rise word)) }
 {
-    block[at::RISE] = (word % 256) as u8;
-    block[at::RISE + 1] = (word / 256) as u8;
+    bytes32::put_word(block, at::RISE, word);
 }
 
 fn next16(n: u16) -> u16
@@ -70,42 +62,40 @@ pub fn one_less(n: u16) -> u16
 }
 
 // A byte of the run is sent, or has arrived: so many are left.
-pub fn byte_done(block: &mut [u8], left: u16)
-    requires { length block.old ≡ block_size }
-    ensures block_len { length block.new ≡ block_size }
-    ensures block_after { (c : Call) (d : Progress) (g w p : ℕ) → left ≡ (byte_done d).left → block.old ≡ block_at c d g w p → block.new ≡ block_at c (byte_done d) g w p }
+#[tactic(auto, using(crate::proofs::Laws::done_byte))]
+pub fn byte_done(block: &mut [u8; 32], left: u16)
+    ensures { left ≡ pred (progress_in block.old).left → Puts block.old block.new (on byte_done) }
 {
     let place = next16(bytes32::word_at(block, at::PLACE));
-    block[at::LEFT] = (left % 256) as u8;
-    block[at::LEFT + 1] = (left / 256) as u8;
-    block[at::PLACE] = (place % 256) as u8;
-    block[at::PLACE + 1] = (place / 256) as u8;
+    bytes32::put_word(block, at::LEFT, left);
+    bytes32::put_word(block, at::PLACE, place);
+}
+
+// How the call is to end.
+pub fn failed(block: &mut [u8; 32], failure: Failure)
+    ensures { Puts block.old block.new (on (ends_with (Err failure))) }
+{
+    end_image::put(block, Err(failure));
 }
 
 // The run begins.
-pub fn begun(block: &mut [u8], here: Here)
-    requires { length block.old ≡ block_size }
-    ensures block_len { length block.new ≡ block_size }
-    ensures block_after { (c : Call) (r : Run) (d : Progress) (g w p : ℕ) → here ≡ here_in c r (is_read r.direction) → block.old ≡ block_at c d g w p → block.new ≡ block_at c (begun r d) g w p }
+#[tactic(auto, using(crate::proofs::Laws::begun_here))]
+pub fn begun(block: &mut [u8; 32], here: Here)
+    ensures { Puts block.old block.new (on (begun (run_in here))) }
 {
     block[at::MARKS] = numbers::flag_number(here.reading);
-    block[at::LEFT] = (here.length % 256) as u8;
-    block[at::LEFT + 1] = (here.length / 256) as u8;
-    block[at::PLACE] = (here.before % 256) as u8;
-    block[at::PLACE + 1] = (here.before / 256) as u8;
+    bytes32::put_word(block, at::LEFT, here.length);
+    bytes32::put_word(block, at::PLACE, here.before);
 }
 
 // On to the next run.
-pub fn next_run(block: &mut [u8])
-    requires { length block.old ≡ block_size }
-    ensures { Puts block.old block.new next_run kept kept kept }
+#[tactic(auto, using(crate::proofs::Laws::next_begun))]
+pub fn next_run(block: &mut [u8; 32])
+    ensures { Puts block.old block.new (on next_run) }
 {
     let run = next16(bytes32::word_at(block, at::RUN));
     block[at::MARKS] = 0;
-    block[at::RUN] = (run % 256) as u8;
-    block[at::RUN + 1] = (run / 256) as u8;
-    block[at::LEFT] = 0;
-    block[at::LEFT + 1] = 0;
-    block[at::PLACE] = 0;
-    block[at::PLACE + 1] = 0;
+    bytes32::put_word(block, at::RUN, run);
+    bytes32::put_word(block, at::LEFT, 0);
+    bytes32::put_word(block, at::PLACE, 0);
 }

@@ -1,6 +1,7 @@
 // The bytes of a read run.
-ghost use Rattle.std.specs.Prelude.{◌≡◌, ◌&&◌, eqb, ltb, length};
-ghost use Rattle.block.specs.Bytes32.{block_size};
+#![tactic(auto, using(crate::proofs::Laws::stand_back, crate::proofs::Laws::image))]
+
+ghost use Rattle.std.specs.Prelude.{◌≡◌, ◌&&◌, eqb, ltb};
 ghost use Rattle.stage_numbers.specs.MasterStage.{recv_stage_of, read_stage_of};
 ghost use Rattle.master.specs.declared.call.Setting.{Setting};
 ghost use Rattle.master.specs.declared.state.Progress.{Progress};
@@ -10,41 +11,45 @@ ghost use Rattle.master_step.specs.Going.{receiving_in, short_nack_in, start_beh
 ghost use Rattle.master_step.specs.Held.{Within, Group};
 
 use crate::here::Here;
+use crate::input::Input;
 use crate::{go, here, put, stage};
+use asked::Asked;
 use registers::{Register, bits, word};
 
-fn fits_recv(here: Here, left: u16, what: u8, phase: u8) -> bool
-    ensures { result ≡ eqb what 0 && (ltb phase 2 && receiving_in here left) }
+fn fits_recv(here: Here, input: Input) -> bool
+    ensures { result ≡ eqb input.what 0 && (ltb input.phase 2 && receiving_in here input.left) }
 {
-    (what == 0) & ((phase < 2) & here::receiving(here, left))
+    (input.what == 0) & ((input.phase < 2) & here::receiving(here, input.left))
 }
 
 // while { check_and_clear_error_flags()?; !star1.read().rx_ne() } { timeout.check()? }, and then datar.read(): RXNE is tested in a
 // second word.
-fn recv_phase(block: &mut [u8], here: Here, left: u16, phase: u8, answer: u16) -> u64
-    requires { length block.old ≡ block_size }
-    ensures { Within 6 0 here left block.old block.new result (λ (g : Setting) (run : Run) (d : Progress). recv_byte g run (recv_stage_of phase) d answer) }
+fn recv_phase(block: &mut [u8; 32], here: Here, input: Input) -> Asked
+    ensures { Within 6 0 here input.left block.old block.new result (λ (g : Setting) (run : Run) (d : Progress). recv_byte g run (recv_stage_of input.phase) d input.answer) }
 {
-    if phase == stage::RECV_STATUS {
-        if !word::bit(answer, bits::RXNE) {
-            put::to(block, stage::WAIT, stage::RXNE, stage::WAIT_CLOCK);
-            return asked::clock();
+    match input.phase {
+        stage::RECV_STATUS => {
+            if !word::bit(input.answer, bits::RXNE) {
+                put::to(block, stage::WAIT, stage::RXNE, stage::WAIT_CLOCK);
+                return Asked::clock();
+            }
+            go::keeps(block, stage::RECV_BYTE, stage::RECV_DATA)
         }
-        return go::keeps(block, stage::RECV_BYTE, stage::RECV_DATA);
+        _ => {
+            let rest = put::one_less(input.left);
+            put::byte_done(block, rest);
+            go::read_bytes(block, here, rest)
+        }
     }
-    let rest = put::one_less(left);
-    put::byte_done(block, rest);
-    go::read_bytes(block, here, rest)
 }
 
-pub fn recv_byte(block: &mut [u8], here: Here, left: u16, what: u8, phase: u8, answer: u16) -> u64
-    requires { length block.old ≡ block_size }
-    ensures { Group 6 here left what phase answer block.old block.new result }
+pub fn recv_byte(block: &mut [u8; 32], here: Here, input: Input) -> Asked
+    ensures { Group 6 here input block.old block.new result }
 {
-    if !fits_recv(here, left, what, phase) {
-        return asked::refused();
+    if !fits_recv(here, input) {
+        return Asked::refused();
     }
-    recv_phase(block, here, left, phase, answer)
+    recv_phase(block, here, input)
 }
 
 // One or two bytes are read, with NACK.
@@ -98,11 +103,10 @@ fn fits_read(here: Here, left: u16, phase: u8) -> bool
 }
 
 // The read's own accesses: POS and ACK, the START behind it, and the bytes that BTF tells of.
-fn read_phase(block: &mut [u8], here: Here, left: u16, phase: u8, answer: u16) -> u64
-    requires { length block.old ≡ block_size }
-    ensures { Within 7 0 here left block.old block.new result (λ (g : Setting) (run : Run) (d : Progress). blocking_read_iter g run (read_stage_of phase) d answer) }
+fn read_phase(block: &mut [u8; 32], here: Here, input: Input) -> Asked
+    ensures { Within 7 0 here input.left block.old block.new result (λ (g : Setting) (run : Run) (d : Progress). blocking_read_iter g run (read_stage_of input.phase) d input.answer) }
 {
-    match phase {
+    match input.phase {
         // ctlr1.modify(set_pos(remaining == 2 && send_nack)) is done.
         stage::POS_WRITE => {
             if here.start {
@@ -112,76 +116,71 @@ fn read_phase(block: &mut [u8], here: Here, left: u16, phase: u8, answer: u16) -
                     stage::FALL_START,
                     stage::FALL_CONTROL,
                 );
-                return asked::read(Register::Ctlr1);
+                return Asked::read(Register::Ctlr1);
             }
-            go::read_bytes(block, here, left)
+            go::read_bytes(block, here, input.left)
         }
         // if remaining <= 2 && send_nack { ctlr1.modify(set_ack(false)) }
         stage::ACK_READ => {
-            let off = word::clear_bit(answer, bits::ACK);
-            go::modifies(block, stage::ACK_WRITE, answer, Register::Ctlr1, off)
+            let off = word::clear_bit(input.answer, bits::ACK);
+            go::modifies(block, stage::ACK_WRITE, input.answer, Register::Ctlr1, off)
         }
         stage::ACK_WRITE => {
             put::to(block, stage::ADDRESS, 0, stage::ADDRESS_CLEARED);
-            asked::read(Register::Star2)
+            Asked::read(Register::Star2)
         }
         // else if remaining == 1 && send_nack { ctlr1.modify(set_start(true)) }
         stage::START_READ => {
-            let on = word::set_bit(answer, bits::START);
-            go::modifies(block, stage::START_WRITE, answer, Register::Ctlr1, on)
+            let on = word::set_bit(input.answer, bits::START);
+            go::modifies(block, stage::START_WRITE, input.answer, Register::Ctlr1, on)
         }
-        stage::START_WRITE => go::read_bytes(block, here, left),
+        stage::START_WRITE => go::read_bytes(block, here, input.left),
         // if remaining == 3 { ctlr1.modify(set_ack(false)); datar.read(); wait_btf()? }
         stage::NACK_READ => {
-            let off = word::clear_bit(answer, bits::ACK);
-            go::modifies(block, stage::NACK_WRITE, answer, Register::Ctlr1, off)
+            let off = word::clear_bit(input.answer, bits::ACK);
+            go::modifies(block, stage::NACK_WRITE, input.answer, Register::Ctlr1, off)
         }
         stage::NACK_WRITE => go::keeps(block, stage::READ_ITER, stage::THIRD),
         stage::THIRD => {
-            put::byte_done(block, put::one_less(left));
+            put::byte_done(block, put::one_less(input.left));
             put::to(block, stage::WAIT, stage::TWO, stage::WAIT_STATUS);
-            asked::read(Register::Star1)
+            Asked::read(Register::Star1)
         }
         // ctlr1.modify(set_start(true)); datar.read(); datar.read()
         stage::AGAIN_READ => {
-            let on = word::set_bit(answer, bits::START);
-            go::modifies(block, stage::AGAIN_WRITE, answer, Register::Ctlr1, on)
+            let on = word::set_bit(input.answer, bits::START);
+            go::modifies(block, stage::AGAIN_WRITE, input.answer, Register::Ctlr1, on)
         }
         stage::AGAIN_WRITE => go::keeps(block, stage::READ_ITER, stage::SECOND_LAST),
         stage::SECOND_LAST => {
-            put::byte_done(block, put::one_less(left));
+            put::byte_done(block, put::one_less(input.left));
             go::keeps(block, stage::READ_ITER, stage::LAST)
         }
         stage::LAST => {
-            let rest = put::one_less(left);
+            let rest = put::one_less(input.left);
             put::byte_done(block, rest);
             go::finished(block, here, rest)
         }
         // if send_stop { wait_stop_finished()?; ctlr1.modify(set_pos(false)) }
         stage::POS_OFF_READ => {
-            let off = word::clear_bit(answer, bits::POS);
-            go::modifies(block, stage::POS_OFF_WRITE, answer, Register::Ctlr1, off)
+            let off = word::clear_bit(input.answer, bits::POS);
+            go::modifies(
+                block,
+                stage::POS_OFF_WRITE,
+                input.answer,
+                Register::Ctlr1,
+                off,
+            )
         }
-        _ => {
-            put::to(block, stage::ENDED, 0, 0);
-            asked::done()
-        }
+        _ => go::ends(block, here, input.left),
     }
 }
 
-pub fn blocking_read_iter(
-    block: &mut [u8],
-    here: Here,
-    left: u16,
-    what: u8,
-    phase: u8,
-    answer: u16,
-) -> u64
-    requires { length block.old ≡ block_size }
-    ensures { Group 7 here left what phase answer block.old block.new result }
+pub fn blocking_read_iter(block: &mut [u8; 32], here: Here, input: Input) -> Asked
+    ensures { Group 7 here input block.old block.new result }
 {
-    if !((what == 0) & fits_read(here, left, phase)) {
-        return asked::refused();
+    if !((input.what == 0) & fits_read(here, input.left, input.phase)) {
+        return Asked::refused();
     }
-    read_phase(block, here, left, phase, answer)
+    read_phase(block, here, input)
 }

@@ -1,4 +1,5 @@
 // The stages by number, as they stand in the block: the group, which of the group's, and the phase (docs/STATE.md).
+// Numbers and not the enum of crate master: a step that decodes its stage first takes 1.37 times the instructions.
 
 // Groups.
 pub const BEGIN: u8 = 0;

@@ -1,17 +1,20 @@
 // Up to a START, and at the end of a frame: `wait_stop_finished` and `launch_start`.
-ghost use Rattle.std.specs.Prelude.{◌≡◌, ◌&&◌, ltb, length};
-ghost use Rattle.block.specs.Bytes32.{block_size};
-ghost use Rattle.stage_numbers.specs.MasterStage.{fall_of, launch_stage_of};
+#![tactic(auto, using(crate::proofs::Laws::stand_back, crate::proofs::Laws::image))]
+
+ghost use Rattle.std.specs.Prelude.{◌≡◌, ◌&&◌, ltb};
+ghost use Rattle.stage_numbers.specs.MasterStage.{fall_number, fall_of, fall_stage_of, launch_stage_of};
 ghost use Rattle.master.specs.declared.call.Setting.{Setting};
 ghost use Rattle.master.specs.declared.state.Progress.{Progress};
 ghost use Rattle.operations.specs.declared.search.Run.{Run};
-ghost use Rattle.master.specs.Machine.{fallen, launch_start};
+ghost use Rattle.master.specs.Machine.{fallen, wait_stop_finished, launch_start};
 ghost use Rattle.master_step.specs.Going.{fits_fall_in};
-ghost use Rattle.master_step.specs.Held.{Goes, Within, Group};
+ghost use Rattle.master_step.specs.Held.{Goes, Within, StepsWithin, Group};
 
 use crate::here::Here;
+use crate::input::Input;
 use crate::{go, here, put, stage};
 use access::{Error, ending, next};
+use asked::Asked;
 use registers::{Register, bits, word};
 
 fn fits_fall(here: Here, left: u16, what: u8) -> bool
@@ -25,106 +28,105 @@ fn fits_fall(here: Here, left: u16, what: u8) -> bool
 }
 
 // STOP has fallen.
-pub fn fallen(block: &mut [u8], here: Here, left: u16, what: u8) -> u64
-    requires { length block.old ≡ block_size }
+pub fn fallen(block: &mut [u8; 32], here: Here, left: u16, what: u8) -> Asked
     ensures { Goes here left block.old block.new result (λ (_ : Setting) (_ : Run). fallen (fall_of what)) }
 {
     if what == stage::FALL_START {
         put::to(block, stage::LAUNCH_START, 0, stage::LAUNCH_CONTROL);
-        return asked::read(Register::Ctlr1);
+        return Asked::read(Register::Ctlr1);
     }
     if here.reading {
         put::to(block, stage::READ_ITER, 0, stage::POS_OFF_READ);
-        return asked::read(Register::Ctlr1);
+        return Asked::read(Register::Ctlr1);
     }
-    put::to(block, stage::ENDED, 0, 0);
-    asked::done()
+    go::ends(block, here, left)
 }
 
 // while ctlr1.read().stop() { timeout.check()? }
-pub fn wait_stop_finished(
-    block: &mut [u8],
-    here: Here,
-    left: u16,
-    what: u8,
-    phase: u8,
-    answer: u16,
-) -> u64
-    requires { length block.old ≡ block_size }
-    ensures { Group 1 here left what phase answer block.old block.new result }
+fn fall_phase(block: &mut [u8; 32], here: Here, input: Input) -> Asked
+    ensures { StepsWithin 1 (fall_number (fall_of input.what)) (ltb input.phase 2) here input.left block.old block.new result (λ (_ : Setting) (_ : Run) (d : Progress). wait_stop_finished (fall_stage_of input.phase) (fall_of input.what) d input.answer) }
 {
-    if !fits_fall(here, left, what) {
-        return asked::refused();
-    }
-    match phase {
+    match input.phase {
         stage::FALL_CONTROL => {
-            if word::bit(answer, bits::STOP) {
+            if word::bit(input.answer, bits::STOP) {
                 put::phase(block, stage::FALL_CLOCK);
-                return asked::clock();
+                return Asked::clock();
             }
-            fallen(block, here, left, what)
+            fallen(block, here, input.left, input.what)
         }
         stage::FALL_CLOCK => {
-            if next::late(answer) {
+            if next::late(input.answer) {
                 return go::fails(block, ending::failure_of(Error::Timeout));
             }
             put::phase(block, stage::FALL_CONTROL);
-            asked::read(Register::Ctlr1)
+            Asked::read(Register::Ctlr1)
         }
-        _ => asked::refused(),
+        _ => Asked::refused(),
     }
+}
+
+pub fn wait_stop_finished(block: &mut [u8; 32], here: Here, input: Input) -> Asked
+    ensures { Group 1 here input block.old block.new result }
+{
+    if !fits_fall(here, input.left, input.what) {
+        return Asked::refused();
+    }
+    fall_phase(block, here, input)
 }
 
 // if ctlr1.read().start() || star1.read().sb() { return }, and else ctlr1.modify(start, and ack for a read)
-fn launch_phase(block: &mut [u8], here: Here, left: u16, phase: u8, answer: u16) -> u64
-    requires { length block.old ≡ block_size }
-    ensures { Within 2 0 here left block.old block.new result (λ (_ : Setting) (_ : Run) (d : Progress). launch_start (launch_stage_of phase) d answer) }
+fn launch_phase(block: &mut [u8; 32], here: Here, input: Input) -> Asked
+    ensures { Within 2 0 here input.left block.old block.new result (λ (_ : Setting) (_ : Run) (d : Progress). launch_start (launch_stage_of input.phase) d input.answer) }
 {
-    match phase {
+    match input.phase {
         stage::LAUNCH_CONTROL => {
-            if word::bit(answer, bits::START) {
+            if word::bit(input.answer, bits::START) {
                 put::to(block, stage::WAIT, stage::SB, stage::WAIT_STATUS);
-                return asked::read(Register::Star1);
+                return Asked::read(Register::Star1);
             }
             put::phase(block, stage::LAUNCH_STATUS);
-            asked::read(Register::Star1)
+            Asked::read(Register::Star1)
         }
         stage::LAUNCH_STATUS => {
-            if word::bit(answer, bits::SB) {
+            if word::bit(input.answer, bits::SB) {
                 put::to(block, stage::WAIT, stage::SB, stage::WAIT_STATUS);
-                return asked::read(Register::Star1);
+                return Asked::read(Register::Star1);
             }
             put::phase(block, stage::LAUNCH_READ);
-            asked::read(Register::Ctlr1)
+            Asked::read(Register::Ctlr1)
         }
         stage::LAUNCH_READ => {
-            let started = word::set_bit(answer, bits::START);
+            let started = word::set_bit(input.answer, bits::START);
             if here.reading {
                 let acked = word::set_bit(started, bits::ACK);
-                return go::modifies(block, stage::LAUNCH_WRITE, answer, Register::Ctlr1, acked);
+                return go::modifies(
+                    block,
+                    stage::LAUNCH_WRITE,
+                    input.answer,
+                    Register::Ctlr1,
+                    acked,
+                );
             }
-            go::modifies(block, stage::LAUNCH_WRITE, answer, Register::Ctlr1, started)
+            go::modifies(
+                block,
+                stage::LAUNCH_WRITE,
+                input.answer,
+                Register::Ctlr1,
+                started,
+            )
         }
         _ => {
             put::to(block, stage::WAIT, stage::SB, stage::WAIT_STATUS);
-            asked::read(Register::Star1)
+            Asked::read(Register::Star1)
         }
     }
 }
 
-pub fn launch_start(
-    block: &mut [u8],
-    here: Here,
-    left: u16,
-    what: u8,
-    phase: u8,
-    answer: u16,
-) -> u64
-    requires { length block.old ≡ block_size }
-    ensures { Group 2 here left what phase answer block.old block.new result }
+pub fn launch_start(block: &mut [u8; 32], here: Here, input: Input) -> Asked
+    ensures { Group 2 here input block.old block.new result }
 {
-    if !here::fits_starting(here, left, what, phase) {
-        return asked::refused();
+    if !here::fits_starting(here, input) {
+        return Asked::refused();
     }
-    launch_phase(block, here, left, phase, answer)
+    launch_phase(block, here, input)
 }

@@ -1,16 +1,19 @@
 // ctlr1.modify(stop)
-ghost use Rattle.std.specs.Prelude.{◌≡◌, ◌&&◌, ltb, length};
-ghost use Rattle.block.specs.Bytes32.{block_size};
-ghost use Rattle.stage_numbers.specs.MasterStage.{stop_for_of};
+#![tactic(auto, using(crate::proofs::Laws::stand_back, crate::proofs::Laws::image))]
+
+ghost use Rattle.std.specs.Prelude.{◌≡◌, ◌&&◌, ltb};
+ghost use Rattle.stage_numbers.specs.MasterStage.{stop_for_number, stop_for_of, half_of};
 ghost use Rattle.master.specs.declared.call.Setting.{Setting};
 ghost use Rattle.master.specs.declared.state.Progress.{Progress};
 ghost use Rattle.operations.specs.declared.search.Run.{Run};
-ghost use Rattle.master.specs.Machine.{stopped};
+ghost use Rattle.master.specs.Machine.{stopped, generate_stop};
 ghost use Rattle.master_step.specs.Going.{fits_stop_in};
-ghost use Rattle.master_step.specs.Held.{Goes, Group};
+ghost use Rattle.master_step.specs.Held.{Goes, StepsWithin, Group};
 
 use crate::here::Here;
+use crate::input::Input;
 use crate::{go, here, put, stage};
+use asked::Asked;
 use registers::{Register, bits, word};
 
 fn fits_stop(here: Here, left: u16, what: u8) -> bool
@@ -25,8 +28,7 @@ fn fits_stop(here: Here, left: u16, what: u8) -> bool
 }
 
 // STOP is asked.
-fn stopped(block: &mut [u8], here: Here, left: u16, what: u8) -> u64
-    requires { length block.old ≡ block_size }
+fn stopped(block: &mut [u8; 32], here: Here, left: u16, what: u8) -> Asked
     ensures { Goes here left block.old block.new result (λ (g : Setting) (run : Run) (d : Progress). stopped g run (stop_for_of what) d) }
 {
     match what {
@@ -37,36 +39,34 @@ fn stopped(block: &mut [u8], here: Here, left: u16, what: u8) -> u64
                 stage::FALL_END,
                 stage::FALL_CONTROL,
             );
-            asked::read(Register::Ctlr1)
+            Asked::read(Register::Ctlr1)
         }
         stage::STOP_ONE => go::read_bytes(block, here, left),
         _ => go::keeps(block, stage::READ_ITER, stage::SECOND_LAST),
     }
 }
 
-pub fn generate_stop(
-    block: &mut [u8],
-    here: Here,
-    left: u16,
-    what: u8,
-    phase: u8,
-    answer: u16,
-) -> u64
-    requires { length block.old ≡ block_size }
-    ensures { Group 8 here left what phase answer block.old block.new result }
+fn stop_phase(block: &mut [u8; 32], here: Here, input: Input) -> Asked
+    ensures { StepsWithin 8 (stop_for_number (stop_for_of input.what)) (ltb input.phase 2) here input.left block.old block.new result (λ (g : Setting) (run : Run) (d : Progress). generate_stop g run (half_of input.phase) (stop_for_of input.what) d input.answer) }
 {
-    if !fits_stop(here, left, what) {
-        return asked::refused();
-    }
-    match phase {
+    match input.phase {
         stage::HALF_READ => go::modifies(
             block,
             stage::HALF_WRITE,
-            answer,
+            input.answer,
             Register::Ctlr1,
-            word::set_bit(answer, bits::STOP),
+            word::set_bit(input.answer, bits::STOP),
         ),
-        stage::HALF_WRITE => stopped(block, here, left, what),
-        _ => asked::refused(),
+        stage::HALF_WRITE => stopped(block, here, input.left, input.what),
+        _ => Asked::refused(),
     }
+}
+
+pub fn generate_stop(block: &mut [u8; 32], here: Here, input: Input) -> Asked
+    ensures { Group 8 here input block.old block.new result }
+{
+    if !fits_stop(here, input.left, input.what) {
+        return Asked::refused();
+    }
+    stop_phase(block, here, input)
 }

@@ -4,12 +4,12 @@ use Rattle.master_call.proofs.BeginLaws.{begin_misshapen, begin_refused, begin_f
 use Rattle.master_call.proofs.begin.begin.Goals as goal
 
 pub returns-then-misshapen : goal.returns-then-misshapen
-returns-then-misshapen c = begin_misshapen _ _ _ _ _ _ _ (sym c.misshapen.ensures ∙ c.if-misshapen.true) refl c.refusal.ensures
+returns-then-misshapen c = begin_misshapen _ _ _ _ _ _ (sym c.misshapen.ensures ∙ c.if-misshapen.true) refl
 
-pub returns-in-Refused : goal.returns-in-Refused
-returns-in-Refused c =
-    begin_refused _ _ _ _ _ _ _ (sym c.misshapen.ensures ∙ c.if-misshapen.false) _ (sym c.in-Refused.is ∙ c.look.ensures) refl c.refusal-in-Refused.ensures
+pub returns-in-Err : goal.returns-in-Err
+returns-in-Err c =
+    begin_refused _ _ _ _ _ _ (sym c.misshapen.ensures ∙ c.if-misshapen.false) _ (sym c.in-Err.is ∙ c.look.ensures) refl
 
-pub returns-in-Found : goal.returns-in-Found
-returns-in-Found c =
-    begin_found _ _ _ _ _ _ _ (sym c.misshapen.ensures ∙ c.if-misshapen.false) _ (sym c.in-Found.is ∙ c.look.ensures) c.starts.ensures
+pub returns-in-Ok : goal.returns-in-Ok
+returns-in-Ok c =
+    begin_found _ _ _ _ _ _ (sym c.misshapen.ensures ∙ c.if-misshapen.false) _ _ (sym c.in-Ok.is ∙ c.look.ensures) c.starts.ensures

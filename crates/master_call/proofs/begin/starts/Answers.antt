@@ -1,18 +1,26 @@
 -- `master_call::begin::starts` meets its contract.
-use mathlib.Core.Path.{refl, ap}
-use Rattle.master.specs.Machine.{fresh, begun}
+use mathlib.Core.Path.{◌≡◌, refl, ap, sym, ◌∙◌}
+use Rattle.master.specs.Machine.{fresh, begun, write_bytes_move}
 use Rattle.master_step.specs.declared.here.Here.{Here}
+use Rattle.master_step.specs.Held.{block_at, on, run_in}
+use Rattle.master_step.proofs.Laws.{puts_told}
+use Rattle.master_step.proofs.StepLaws.{run_told, goes_told}
 use Rattle.master_call.proofs.BeginLaws.{starts_ended, starts_first, starts_write, begun_block}
 use Rattle.master_call.proofs.begin.starts.Goals as goal
 
 pub returns-then-here : goal.returns-then-here
 returns-then-here c =
-    rw c.in-At.is (starts_first c.args.call c.in-At.run' _ c.here_of-here.ensures _ _ (begun_block _ _ _ c.begun_fields-in-At.ensures c.put-in-At.ensures) c.if-here.true c.read.ensures)
+    rw c.in-Some.is (starts_first c.args.call c.in-Some.run' _ c.here_of-here.ensures _ _ (begun_block _ _ _ c.begun_fields-in-Some.ensures c.put-in-Some.ensures) c.if-here.true c.read.ensures)
 
-pub returns-in-Nothing : goal.returns-in-Nothing
-returns-in-Nothing c = rw c.in-Nothing.is (starts_ended _ _ _ _ c.begun_fields.ensures c.put.ensures c.done.ensures)
+pub returns-in-None : goal.returns-in-None
+returns-in-None c = rw c.in-None.is (starts_ended _ _ _ _ c.begun_fields.ensures c.put.ensures c.done.ensures)
 
 pub returns-else-here : goal.returns-else-here
 returns-else-here c =
-    rw c.in-At.is (starts_write c.args.call c.in-At.run' _ c.here_of-here.ensures _ _ c.if-here.false
-    (c.write_bytes.ensures c.args.call c.in-At.run' (begun c.in-At.run' fresh) 0 0 0 (record { held = c.begun.ensures.block_after c.args.call c.in-At.run' fresh 0 0 0 c.here_of-here.ensures (begun_block _ _ _ c.begun_fields-in-At.ensures c.put-in-At.ensures); going = c.here_of-here.ensures; ending = refl }) (ap (λ (h : Here). h.length) c.here_of-here.ensures)))
+    let block = begun_block _ _ _ c.begun_fields-in-Some.ensures c.put-in-Some.ensures in
+    let here = c.here_of-here.ensures in
+    let put = puts_told (on (begun (run_in c.here_of-here.result))) c.args.call fresh 0 0 0 c.begun.ensures (sym block) in
+    let begun_at : block_at c.args.call (begun c.in-Some.run' fresh) 0 0 0 ≡ c.begun.new.block =
+    (λ i. block_at c.args.call (begun (sym (run_told c.args.call c.in-Some.run' _ here) i) fresh) 0 0 0) ∙ put in
+    rw c.in-Some.is (starts_write c.args.call c.in-Some.run' _ here _ _ c.if-here.false
+    (goes_told write_bytes_move c.args.call c.in-Some.run' (begun c.in-Some.run' fresh) 0 0 0 c.write_bytes.ensures begun_at here (ap (λ (h : Here). h.length) (sym here)) refl refl))

@@ -1,6 +1,7 @@
 -- `master_call::frame::write_step` meets its contract.
 use Prim.Native.Nat.{◌<◌}
 use native.Mathlib.Omega.{arith}
+use borrow.Author.Rules.{rules}
 use mathlib.Core.Path.{◌≡◌, refl}
 use mathlib.Core.Bool.{true, false}
 use Rattle.master_call.proofs.RunLaws.{writing, write_short, write_steps, write_refused}
@@ -16,7 +17,7 @@ pub returns-then-is_call_of-address : goal.returns-then-is_call_of-address
 returns-then-is_call_of-address c =
     λ all.
     let e : writing c.args.block.now c.args.written ≡ true = rw (← c.is_call_of.ensures, ← c.word_at-address.ensures, ← c.word_at-run.ensures) c.if-is_call_of-address.true in
-    write_steps c.args.block.now _ _ _ _ c.requires all e _ c.here_by-here.ensures c.step_in.ensures
+    write_steps c.args.block.now _ _ _ _ (search rules) all e _ c.here_by-here.ensures c.step_in.ensures
 
 pub returns : goal.returns
 returns c =

@@ -1,28 +1,28 @@
 -- `master_call::transaction::transaction_step` meets its contract.
-use mathlib.Core.Path.{◌≡◌, refl}
+use borrow.Author.Rules.{rules}
+use mathlib.Core.Path.{◌≡◌, refl, sym, ◌∙◌}
 use mathlib.Core.Bool.{true, false}
-use Rattle.list_run.proofs.PassLaws.{is_false, is_true}
 use Rattle.list_run.proofs.AnswerLaws.{found_fits}
 use Rattle.master_call.proofs.ListLaws.{calling, call_refused, list_refused, list_steps}
 use Rattle.master_call.proofs.transaction.transaction_step.Goals as goal
 
-pub returns-then-not-found : goal.returns-then-not-found
-returns-then-not-found c =
+pub returns-in_default : goal.returns-in_default
+returns-in_default c =
     λ all.
     let e : calling c.args.block.now ≡ true = rw (← c.is_call_of.ensures, ← c.word_at-address.ensures) c.if-is_call_of-address.true in
-    list_refused c.args.block.now c.args.list.now c.args.written c.args.room _ _ _ all e c.find-found.result (rw (← c.word_at-run.ensures) c.find-found.ensures) (is_false _ c.if-not-found.true) (record { block = refl; ended = c.refused.ensures })
+    list_refused c.args.block.now c.args.list.now c.args.written c.args.room _ _ _ all e c.find.result (rw (← c.word_at-run.ensures) c.find.ensures) c.in_default.is (record { block = refl; ended = c.refused.ensures })
 
 pub overflow_cast-length : goal.overflow_cast-length
-overflow_cast-length c = record { fits = (found_fits _ _ _ _ _ c.find-found.ensures).0 }
+overflow_cast-length c = record { fits = (found_fits _ _ _ _ _ (sym c.in-Some.is ∙ c.find.ensures)).0 }
 
 pub overflow_cast-before : goal.overflow_cast-before
-overflow_cast-before c = record { fits = (found_fits _ _ _ _ _ c.find-found.ensures).1 }
+overflow_cast-before c = record { fits = (found_fits _ _ _ _ _ (sym c.in-Some.is ∙ c.find.ensures)).1 }
 
 pub returns-then-is_call_of-address : goal.returns-then-is_call_of-address
 returns-then-is_call_of-address c =
     λ all.
     let e : calling c.args.block.now ≡ true = rw (← c.is_call_of.ensures, ← c.word_at-address.ensures) c.if-is_call_of-address.true in
-    list_steps c.args.block.now c.args.list.now c.args.written c.args.room _ _ _ all e c.find-found.result (rw (← c.word_at-run.ensures) c.find-found.ensures) c.requires (is_true _ c.if-not-found.false) _ c.here_by-here.ensures c.step_in.ensures
+    list_steps c.args.block.now c.args.list.now c.args.written c.args.room _ _ _ all e c.find.result (rw (← c.word_at-run.ensures) c.find.ensures) (search rules) c.in-Some.found c.in-Some.is _ c.here_by-here.ensures c.step_in.ensures
 
 pub returns : goal.returns
 returns c =

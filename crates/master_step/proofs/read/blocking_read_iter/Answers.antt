@@ -1,19 +1,16 @@
 -- `master_step::read::blocking_read_iter` meets its contract.
-use borrow.Author.Rules.{rules}
-use mathlib.Core.Path.{refl, ap, sym, ◌∙◌}
+use Rattle.std.proofs.Common.{rules, refl, sym, ap, ◌∙◌}
 use mathlib.Core.Bool.{Bool, ◌&&◌}
 use lib.Dec.{eqb}
-use Rattle.master_step.proofs.Laws.{takes, refuses, told}
+use Rattle.master_step.proofs.Laws.{going, takes, refuses}
 use Rattle.master_step.proofs.TakenLaws.{zero_told, read_decides}
 use Rattle.master_step.proofs.read.blocking_read_iter.Goals as goal
 
-pub returns-then-not-what-fits_read : goal.returns-then-not-what-fits_read
-returns-then-not-what-fits_read c =
-    λ k r d s l n.
-    refuses (read_decides c.args.left c.args.what c.args.phase s l n (search rules) (search rules) ∙ ap (λ (b : Bool). eqb c.args.what 0 && b) (sym c.fits_read.ensures) ∙ c.if-not-what-fits_read.true) (record { block = refl; ended = c.refused.ensures })
+pub returns-then-not-input-fits_read : goal.returns-then-not-input-fits_read
+returns-then-not-input-fits_read c = λ s k n. refuses (read_decides c.args.input.left c.args.input.what c.args.input.phase (going s) (sym s.rest) n (search rules) (search rules) ∙ ap (λ (b : Bool). eqb c.args.input.what 0 && b) (sym c.fits_read.ensures) ∙ c.if-not-input-fits_read.true) (record { block = refl; ended = c.refused.ensures })
 
 pub returns : goal.returns
 returns c =
-    λ k r d s l n.
-    let fit = ap (λ (b : Bool). eqb c.args.what 0 && b) (sym c.fits_read.ensures) ∙ c.if-not-what-fits_read.false in
-    takes (read_decides c.args.left c.args.what c.args.phase s l n (search rules) (search rules) ∙ fit) (c.read_phase.ensures k r d c.args.phase (told (zero_told c.args.what _ fit) s) l)
+    λ s k n.
+    let fit = ap (λ (b : Bool). eqb c.args.input.what 0 && b) (sym c.fits_read.ensures) ∙ c.if-not-input-fits_read.false in
+    takes (read_decides c.args.input.left c.args.input.what c.args.input.phase (going s) (sym s.rest) n (search rules) (search rules) ∙ fit) (c.read_phase.ensures s k.group_is (k.what_is ∙ sym (zero_told c.args.input.what _ fit)))
