@@ -1,26 +1,21 @@
 -- Where a slave call begins, as its block says it and as its machine does.
 -- Assumes nothing.
-use mathlib.Core.Path.{◌≡◌, refl, ap, subst, sym, ◌∙◌}
+use mathlib.Core.Path.{◌≡◌, refl, ap, sym, ◌∙◌}
 use mathlib.Core.List.{List}
 use Prim.Native.Nat.{ℕ}
 use Rattle.registers.specs.declared.register.Register.TheVariants.{Star1}
 use Rattle.access.specs.declared.need.Need.TheVariants as need
 use Rattle.block.specs.declared.fields.Fields.{Fields}
 use Rattle.block.specs.Bytes32.{bytes_of}
-use Rattle.images.specs.Numbers.{chip_number, chip_of}
+use Rattle.images.specs.Numbers.{chip_of}
 use Rattle.images.specs.SlaveImage.{slave_fields}
 use Rattle.slave.specs.declared.state.Kind.{Kind}
 use Rattle.slave.specs.declared.state.Kind.TheVariants.{Listen, RespondToWrite, RespondToRead}
 use Rattle.slave.specs.Machine.{owed_at, start}
-use Rattle.asked.specs.Asked.{Asks}
+use Rattle.access.specs.declared.need.Need.{Need}
 use Rattle.slave_step.specs.Held.{begun_fields, first_fields, Moves}
 
 -- ---- the numbers, kind by kind
-
-pub begun_with : (entry chip group n : ℕ) → n ≡ chip_number (chip_of chip)
-    → record { entry = entry; chip = n; option = 0; stage = group; what = 0; phase = 0; marks = 0; error = 0; address = 0; run = 0; left = 0; place = 0; word = 0; divider = 0; rise = 0; value = 0; count = 0; second = 0; mhz = 0; extra = 0 } ≡ begun_fields entry chip group
-unfolding begun_fields
-begun_with entry chip group n e = ap (λ (n : ℕ). record { entry = entry; chip = n; option = 0; stage = group; what = 0; phase = 0; marks = 0; error = 0; address = 0; run = 0; left = 0; place = 0; word = 0; divider = 0; rise = 0; value = 0; count = 0; second = 0; mhz = 0; extra = 0 }) e
 
 module _ (chip : ℕ) where
   pub listen_first : begun_fields 7 chip 0 ≡ first_fields Listen chip
@@ -42,7 +37,7 @@ first_owed Listen chip size = refl
 first_owed RespondToWrite chip size = refl
 first_owed RespondToRead chip size = refl
 
-module _ (x : Kind) (chip : ℕ) (f : Fields) (after : List ℕ) (asked : ℕ) where
-  pub begins : f ≡ first_fields x chip → after ≡ bytes_of f → Asks asked (need.Read Star1) → (size : ℕ) → Moves (record { chip = chip_of chip; kind = x; size = size }) (start x) after asked
+module _ (x : Kind) (chip : ℕ) (f : Fields) (after : List ℕ) (asked : Need) where
+  pub begins : f ≡ first_fields x chip → after ≡ bytes_of f → asked ≡ (need.Read Star1) → (size : ℕ) → Moves (record { chip = chip_of chip; kind = x; size = size }) (start x) after asked
   unfolding first_fields
-  begins ef eb k size = record { block = eb ∙ ap bytes_of ef; owed = subst (Asks asked) (sym (first_owed x chip size)) k }
+  begins ef eb k size = record { block = eb ∙ ap bytes_of ef; owed = k ∙ sym (first_owed x chip size) }

@@ -1,18 +1,19 @@
 -- The whole step: what the tests of a block find is the state that crate images finds in it, and the step of its numbers is that state's.
 -- Assumes nothing.
+use Rattle.std.specs.Prelude.{Option, Some, None, Err}
+use Rattle.access.specs.declared.need.Need.{Need}
+use Rattle.std.proofs.Math.Bool.{and_comm}
+use Rattle.std.proofs.lemmas.Bool.{false_from_ne_true}
 use Prim.Native.Nat.{ℕ, ◌<◌, ◌≤◌}
 use mathlib.Core.Path.{◌≡◌, refl, sym, ap, subst, ◌∙◌}
 use mathlib.Core.Bool.{Bool, true, false, cond, not, ◌&&◌, true≢false}
 use mathlib.Core.List.{List}
 use native.Mathlib.Omega.{arith}
 use lib.Dec.{eqb, leb, ltb}
-use lib.ListN.{length}
 use borrow.Author.Tests.{eqb-true, le-leb, lt-leb}
-use Rattle.access.specs.declared.ending.Ending.{Ending}
-use Rattle.access.specs.declared.ending.Ending.TheVariants.{Failed}
 use Rattle.access.specs.declared.ending.Failure.{Failure}
 use Rattle.registers.specs.declared.chip.Chip.{Chip}
-use Rattle.access.specs.Endings.{ending_of, is_done, is_ending, is_plain}
+use Rattle.access.specs.Endings.{Ending, ending_of, is_done, is_ending, is_plain}
 use Rattle.access.proofs.EndingLaws.{ending_plain, plain_ending, as_failed}
 use Rattle.errors.specs.Met.{has_failed}
 use Rattle.errors.proofs.MetLaws.{met_number}
@@ -21,13 +22,12 @@ use Rattle.access.specs.Machine.{is_end}
 use Rattle.access.proofs.Choice.{first_true, second_true, both_true}
 use Rattle.block.specs.declared.fields.Fields.{Fields}
 use Rattle.block.specs.Fields.{same_fields}
-use Rattle.block.specs.Bytes32.{fields_of, bytes_of, Bytes}
-use Rattle.block.proofs.Codec.{same_said, bytes_back}
-use Rattle.images.specs.declared.slave_image.SlaveFound.{SlaveFound}
-use Rattle.images.specs.declared.slave_image.SlaveFound.TheVariants.{At, Nothing}
+use Rattle.block.specs.Bytes32.{bytes_of}
+use Rattle.block.proofs.Codec.{same_said}
 use Rattle.images.specs.Numbers.{chip_of, is_chip}
-use Rattle.images.specs.SlaveImage.{is_kind, slave_of, slave_in, unused_empty, is_call}
+use Rattle.images.specs.SlaveImage.{kind_of, is_kind, slave_of, slave_in, unused_empty, is_call}
 use Rattle.images.proofs.SlaveImageRanges.{found, no_ending, no_stage, no_call}
+use Rattle.slave.specs.declared.state.State.{State}
 use Rattle.slave.specs.declared.stage.StopfFor.TheVariants as stopf
 use Rattle.slave.specs.declared.stage.StopfStage.TheVariants as clearing
 use Rattle.slave.specs.declared.stage.StaleStage.TheVariants as stale
@@ -47,7 +47,7 @@ use Rattle.slave.specs.Machine.{owed_at, advance_at}
 use Rattle.slave.specs.Steps.{setting_in, fits_lent, is_open}
 use Rattle.stage_numbers.specs.SlaveStage.{is_stage, stage_of, stage_group, stage_what, stage_phase}
 use Rattle.access.proofs.Compared.{turned, itself, with_true, reordered}
-use Rattle.slave_step.specs.Held.{fields_at, block_at, setting_at, closing, ends_at, ready_at, Refuses, Steps, Step, StepsFrom}
+use Rattle.slave_step.specs.Held.{fields_at, block_at, said_in, image, closing, ends_at, ready_at, is_seen, fits_in, Refuses, Steps, StepsFrom}
 use Rattle.slave_step.proofs.Laws.{refuses}
 
 -- ---- a block whose numbers beside the stage's are a call's is the block of the call and the progress that it tells
@@ -62,16 +62,11 @@ module _ (f : Fields) (size : ℕ) where
   fields_same : is_call f ≡ true → is_ending f.error f.value f.extra ≡ true → fields_at (setting_in (slave_of f) size) (slave_of f).progress f.stage f.what f.phase ≡ f
   fields_same c e = same_said _ f (same_call ∙ both_true c e)
 
-pub block_told : (b : List ℕ) (size : ℕ) → length b ≡ 32 → Bytes b → is_call (fields_of b) ≡ true → is_ending (fields_of b).error (fields_of b).value (fields_of b).extra ≡ true
-    → b ≡ block_at (setting_in (slave_of (fields_of b)) size) (slave_of (fields_of b)).progress (fields_of b).stage (fields_of b).what (fields_of b).phase
-unfolding block_at
-block_told b size n bytes c e = sym (bytes_back b n bytes) ∙ ap bytes_of (sym (fields_same (fields_of b) size c e))
-
 -- ---- endings by their numbers
 
 -- an error has only the stages of an abort
-met_only : (chip : Chip) (a c : Bool) (x : Kind) (size count : ℕ) (f : Failure) → cond a (returns_in x size count (Failed f)) (cond c (has_failed chip false (Failed f)) (is_done (Failed f))) ≡ true
-    → has_failed chip false (Failed f) ≡ true
+met_only : (chip : Chip) (a c : Bool) (x : Kind) (size count : ℕ) (f : Failure) → cond a (returns_in x size count (Err f)) (cond c (has_failed chip false (Err f)) (is_done (Err f))) ≡ true
+    → has_failed chip false (Err f) ≡ true
 met_only chip true c x size count f h = absurd (true≢false (sym h))
 met_only chip false true x size count f h = h
 met_only chip false false x size count f h = absurd (true≢false (sym h))
@@ -159,42 +154,59 @@ either_way : {A : Type 0} (b : Bool) → (b ≡ true → A) → (b ≡ false →
 either_way true x y = x refl
 either_way false x y = y refl
 
-not_true : (b : Bool) → (b ≡ true → ⊥) → b ≡ false
-not_true true h = absurd (h refl)
-not_true false h = refl
-
 -- the same tests in another order
-retest : {t u : Bool} {g : Setting} {m : Move} {before after : List ℕ} {asked : ℕ} → t ≡ u → Steps t g m before after asked → Steps u g m before after asked
+retest : {t u : Bool} {g : Setting} {m : Move} {before after : List ℕ} {asked : Need} → t ≡ u → Steps t g m before after asked → Steps u g m before after asked
 retest {g = g} {m = m} {before} {after} {asked} e s = subst (λ (x : Bool). Steps x g m before after asked) e s
 
 no_stage_fits : (l f : Bool) {s : Bool} → s ≡ false → l && (s && f) ≡ false
 no_stage_fits true f e = ap (λ (s : Bool). s && f) e
 no_stage_fits false f e = refl
 
-turned_round : (l f : Bool) → l && f ≡ f && l
-turned_round true true = refl
-turned_round true false = refl
-turned_round false true = refl
-turned_round false false = refl
+-- ---- what the tests of a block find, where all hold
+
+module _ (entry size : ℕ) (f : Fields) {call plain ready : Bool} (call-is : call ≡ eqb f.entry entry && is_call f) (plain-is : plain ≡ is_plain f.error f.value) (ready-is : ready ≡ is_seen (said_in entry size f) f.stage f.what) (test : call && (plain && ready) ≡ true) where
+  called : eqb f.entry entry && is_call f ≡ true
+  called = sym call-is ∙ first_true call (plain && ready) test
+
+  own : eqb f.entry entry ≡ true
+  own = first_true (eqb f.entry entry) (is_call f) called
+
+  is-call : is_call f ≡ true
+  is-call = second_true (eqb f.entry entry) (is_call f) called
+
+  pub seen : is_seen (said_in entry size f) f.stage f.what ≡ true
+  seen = sym ready-is ∙ second_true plain ready (second_true call (plain && ready) test)
+
+  told : f.error < 256 → is_ending f.error f.value f.extra ≡ true
+  unfolding slave_of
+  told byte =
+      ready_ending (chip_of f.chip) (closing f.stage f.what) (eqb f.stage 9) (kind_of entry) size f.count f.error f.value f.extra byte
+      (second_true (counts (said_in entry size f).setting (said_in entry size f).progress) (ends_at (said_in entry size f).setting (said_in entry size f).progress f.stage f.what) seen)
+      (sym plain-is ∙ first_true plain ready (second_true call (plain && ready) test))
+
+  -- the block is that of the call that it tells
+  pub held : {b : List ℕ} → f.error < 256 → bytes_of f ≡ b → image (said_in entry size f) f.stage f.what f.phase ≡ b
+  unfolding slave_of block_at
+  held byte e = ap (λ (n : ℕ). image (said_in n size f) f.stage f.what f.phase) (sym (eqb-true f.entry entry own)) ∙ ap bytes_of (fields_same f size is-call (told byte)) ∙ e
 
 -- what is lent is no longer than a call takes, the numbers are a stage's, and it has not ended
 in_order : (f : Bool) {n s l o : Bool} → n ≡ true → s ≡ true → o ≡ l → l && (s && f) ≡ (n && f) && o
-in_order f {l = l} p q r = rw (p, q, r) (turned_round l f)
+in_order f {l = l} p q r = rw (p, q, r) (and_comm l f)
 
-module _ (size a : ℕ) (b after : List ℕ) (asked : ℕ) where
+module _ (size a : ℕ) (b after : List ℕ) (asked : Need) where
   -- more bytes are lent than a call takes
-  pub unlent : (x : SlaveFound) → 65535 < size → Refuses b after asked → StepsFrom x size a b after asked
+  pub unlent : (x : Option State) → 65535 < size → Refuses b after asked → StepsFrom x size a b after asked
   unfolding fits_lent
-  unlent (At s) h r = refuses (rw (lt-leb size 65535 h)) r
-  unlent Nothing h r = r
+  unlent (Some s) h r = refuses (rw (lt-leb size 65535 h)) r
+  unlent None h r = r
 
   -- by what the numbers of a block say
   module _ (f : Fields) where
-    abbrev From : SlaveFound → Type 0
+    abbrev From : Option State → Type 0
     From x = StepsFrom x size a b after asked
 
     by_numbers : (is_call f ≡ false → Refuses b after asked) → (is_stage f.stage f.what f.phase ≡ false → Refuses b after asked) → (is_ending f.error f.value f.extra ≡ false → Refuses b after asked)
-        → (is_call f ≡ true → is_stage f.stage f.what f.phase ≡ true → is_ending f.error f.value f.extra ≡ true → From (At (slave_of f))) → From (slave_in f)
+        → (is_call f ≡ true → is_stage f.stage f.what f.phase ≡ true → is_ending f.error f.value f.extra ≡ true → From (Some (slave_of f))) → From (slave_in f)
     by_numbers nc ns ne is-there =
         either_way (is_call f)
         (λ c. either_way (is_stage f.stage f.what f.phase)
@@ -202,11 +214,11 @@ module _ (size a : ℕ) (b after : List ℕ) (asked : ℕ) where
         (λ s. subst From (no_stage f c s) (ns s)))
         (λ c. subst From (no_call f c) (nc c))
 
-    by_entry : (entry : ℕ) → (eqb f.entry entry ≡ false → Refuses b after asked) → (eqb f.entry entry ≡ true → From (slave_in f)) → From (cond (eqb f.entry entry) (slave_in f) Nothing)
+    by_entry : (entry : ℕ) → (eqb f.entry entry ≡ false → Refuses b after asked) → (eqb f.entry entry ≡ true → From (slave_in f)) → From (cond (eqb f.entry entry) (slave_in f) None)
     by_entry entry other is-there =
         either_way (eqb f.entry entry)
-        (λ e. subst (λ (t : Bool). From (cond t (slave_in f) Nothing)) (sym e) (is-there e))
-        (λ e. subst (λ (t : Bool). From (cond t (slave_in f) Nothing)) (sym e) (other e))
+        (λ e. subst (λ (t : Bool). From (cond t (slave_in f) None)) (sym e) (is-there e))
+        (λ e. subst (λ (t : Bool). From (cond t (slave_in f) None)) (sym e) (other e))
 
     -- the state that the numbers say is not open where they are not ready
     unready : is_stage f.stage f.what f.phase ≡ true → ready_at (setting_in (slave_of f) size) (slave_of f).progress f.stage f.what ≡ false → is_open (slave_of f) size ≡ false
@@ -215,20 +227,20 @@ module _ (size a : ℕ) (b after : List ℕ) (asked : ℕ) where
         let g : Setting = setting_in (slave_of f) size in
         let d : Progress = (slave_of f).progress in
         let st : Stage = stage_of f.stage f.what f.phase in
-        not_true (is_open (slave_of f) size)
+        false_from_ne_true (is_open (slave_of f) size)
         (λ e.
         let lent : leb size 65535 && fits_at g st d ≡ true = first_true (leb size 65535 && fits_at g st d) (not (is_end (owed_at g st d))) e in
         let open-still : not (is_end (owed_at g st d)) ≡ true = second_true (leb size 65535 && fits_at g st d) (not (is_end (owed_at g st d))) e in
         let ready : ready_at g d (stage_group st) (stage_what st) ≡ true = fits_ready g d st open-still (second_true (leb size 65535) (fits_at g st d) lent) in
         true≢false (sym ready ∙ ap (λ (n : ℕ). ready_at g d n (stage_what st)) (group_told f.stage f.what f.phase s) ∙ ap (λ (n : ℕ). ready_at g d f.stage n) (what_told f.stage f.what f.phase s) ∙ short))
 
-    module _ (entry count : ℕ) (call plain ready : Bool) (call-is : call ≡ eqb f.entry entry && is_call f) (plain-is : plain ≡ is_plain f.error f.value) (ready-is : ready ≡ ready_at (setting_at (chip_of f.chip) entry size) (slave_of f).progress f.stage f.what) where
+    module _ (entry : ℕ) {call plain ready : Bool} (call-is : call ≡ eqb f.entry entry && is_call f) (plain-is : plain ≡ is_plain f.error f.value) (ready-is : ready ≡ is_seen (said_in entry size f) f.stage f.what) where
       ready_by : eqb f.entry entry ≡ true → ready ≡ ready_at (setting_in (slave_of f) size) (slave_of f).progress f.stage f.what
       unfolding slave_of
-      ready_by e = ready-is ∙ ap (λ (n : ℕ). ready_at (setting_at (chip_of f.chip) n size) (slave_of f).progress f.stage f.what) (sym (eqb-true f.entry entry e))
+      ready_by e = ready-is ∙ ap (λ (n : ℕ). is_seen (said_in n size f) f.stage f.what) (sym (eqb-true f.entry entry e))
 
       -- the tests find no state that is open
-      pub unheld : call && (plain && ready) ≡ false → Refuses b after asked → From (cond (eqb f.entry entry) (slave_in f) Nothing)
+      pub unheld : call && (plain && ready) ≡ false → Refuses b after asked → From (cond (eqb f.entry entry) (slave_in f) None)
       unheld test r =
           by_entry entry (λ _. r)
           (λ n. by_numbers (λ _. r) (λ _. r) (λ _. r)
@@ -239,23 +251,19 @@ module _ (size a : ℕ) (b after : List ℕ) (asked : ℕ) where
           refuses (unready s (sym (ready_by n) ∙ not-ready)) r))
 
       -- they find a state, whose step it is
-      pub stepped : size ≤ 65535 → f.error < 256 → count ≡ f.count → (is_call f ≡ true → is_ending f.error f.value f.extra ≡ true → b ≡ block_at (setting_in (slave_of f) size) (slave_of f).progress f.stage f.what f.phase)
-          → call && (plain && ready) ≡ true → Step f.stage entry size count f.what f.phase a b after asked → From (cond (eqb f.entry entry) (slave_in f) Nothing)
+      abbrev Taken : ℕ → ℕ → Type 0
+      Taken m group = Steps (ltb group 10 && fits_in (said_in m size f) group f.what f.phase) (said_in m size f).setting (advance_at (said_in m size f).setting (stage_of group f.what f.phase) (said_in m size f).progress a) b after asked
+
+      pub stepped : call && (plain && ready) ≡ true → f.error < 256 → size ≤ 65535 → Taken entry f.stage → From (cond (eqb f.entry entry) (slave_in f) None)
       unfolding fits_lent fits slave_of
-      stepped small byte count-is held test step =
-          let called : eqb f.entry entry && is_call f ≡ true = sym call-is ∙ first_true call (plain && ready) test in
-          let n : eqb f.entry entry ≡ true = first_true (eqb f.entry entry) (is_call f) called in
-          let c : is_call f ≡ true = second_true (eqb f.entry entry) (is_call f) called in
-          let tests : plain && ready ≡ true = second_true call (plain && ready) test in
-          let is-plain : is_plain f.error f.value ≡ true = sym plain-is ∙ first_true plain ready tests in
+      stepped test byte small step =
+          let n : eqb f.entry entry ≡ true = own entry size f call-is plain-is ready-is test in
+          let c : is_call f ≡ true = is-call entry size f call-is plain-is ready-is test in
+          let e : is_ending f.error f.value f.extra ≡ true = told entry size f call-is plain-is ready-is test byte in
           let g : Setting = setting_in (slave_of f) size in
           let d : Progress = (slave_of f).progress in
           let st : Stage = stage_of f.stage f.what f.phase in
-          let both : counts g d && ends_at g d f.stage f.what ≡ true = sym (ready_by n) ∙ second_true plain ready tests in
-          let counted : counts g d ≡ true = first_true (counts g d) (ends_at g d f.stage f.what) both in
-          let ending : ends_at g d f.stage f.what ≡ true = second_true (counts g d) (ends_at g d f.stage f.what) both in
-          let e : is_ending f.error f.value f.extra ≡ true = ready_ending g.chip (closing f.stage f.what) (eqb f.stage 9) g.kind size f.count f.error f.value f.extra byte ending is-plain in
-          let steps : Steps (ltb f.stage 10 && (is_stage f.stage f.what f.phase && fits_at g st d)) g (advance_at g st d a) b after asked = subst (λ (m : ℕ). Step f.stage m size count f.what f.phase a b after asked) (sym (eqb-true f.entry entry n)) step (chip_of f.chip) d (record { held = held c e; counted = counted; ending = ending }) count-is in
+          let steps : Steps (ltb f.stage 10 && (is_stage f.stage f.what f.phase && fits_at g st d)) g (advance_at g st d a) b after asked = subst (λ (m : ℕ). Taken m f.stage) (sym (eqb-true f.entry entry n)) step in
           by_entry entry (λ z. absurd (true≢false (sym n ∙ z)))
           (λ _. by_numbers (λ z. absurd (true≢false (sym c ∙ z))) (λ z. steps.refused (no_stage_fits (ltb f.stage 10) (fits_at g st d) z)) (λ z. absurd (true≢false (sym e ∙ z)))
           (λ _ s _. retest (in_order (fits_at g st d) (le-leb size 65535 small) s (open_at g d st ∙ ap (λ (m : ℕ). ltb m 10) (group_told f.stage f.what f.phase s))) steps))

@@ -1,4 +1,5 @@
 pub mod Laws
+pub mod StoreImage
 pub mod GroupLaws
 pub mod MoveLaws
 pub mod ReadyLaws
@@ -7,3 +8,4 @@ pub mod HeldLaws
 pub mod StoreLaws
 pub mod LinkLaws
 pub mod BeginLaws
+pub mod StandLaws

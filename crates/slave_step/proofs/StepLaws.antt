@@ -1,7 +1,7 @@
 -- What is seen before a step is what its group asks for; and which access is a byte to keep.
 -- Assumes nothing.
 use Prim.Native.Nat.{ℕ, ◌<◌, ◌≤◌}
-use mathlib.Core.Path.{◌≡◌, refl, ap, subst, ◌∙◌}
+use mathlib.Core.Path.{◌≡◌, refl, ap, sym, ◌∙◌}
 use mathlib.Core.Bool.{Bool, true, false, cond, ◌&&◌}
 use mathlib.Core.List.{List}
 use lib.Dec.{eqb, ltb}
@@ -34,24 +34,32 @@ use Rattle.slave.specs.declared.stage.Stage.TheVariants as stage
 use Rattle.slave.specs.declared.state.Kind.{Kind}
 use Rattle.slave.specs.declared.state.Progress.{Progress}
 use Rattle.slave.specs.declared.state.Setting.{Setting}
-use Rattle.slave.specs.Fits.{fits_at}
 use Rattle.slave.specs.Machine.{owed_at}
-use Rattle.stage_numbers.specs.SlaveStage.{is_stage, stage_of, stopf_for_of, stopf_stage_of, stale_stage_of, arm_stage_of, match_stage_of, half_of, error_stage_of, abort_stage_of}
+use Rattle.stage_numbers.specs.SlaveStage.{stage_of, stopf_for_of, stopf_stage_of, stale_stage_of, arm_stage_of, match_stage_of, half_of, error_stage_of, abort_stage_of}
 use Rattle.asked.specs.Asked.{is_keep}
-use Rattle.slave_step.specs.Held.{Ready}
-
-pub in_group : {g : Setting} {d : Progress} {b : List ℕ} {n m w p : ℕ} → n ≡ m → Ready g d b n w p → Ready g d b m w p
-in_group {g} {d} {b} {w = w} {p = p} e s = subst (λ (x : ℕ). Ready g d b x w p) e s
+use Rattle.slave_step.specs.Held.{Call, fits_in}
 
 -- no stage of a group from 10 on takes a step
-pub no_group : (g : Setting) (d : Progress) (n w p : ℕ) → 10 ≤ n → ltb n 10 && (is_stage n w p && fits_at g (stage_of n w p) d) ≡ false
-no_group g d n w p h = ap (λ (b : Bool). b && (is_stage n w p && fits_at g (stage_of n w p) d)) (le-ltb n 10 h)
+pub no_group : (s : Call) (n w p : ℕ) → 10 ≤ n → ltb n 10 && fits_in s n w p ≡ false
+no_group s n w p h = ap (λ (b : Bool). b && fits_in s n w p) (le-ltb n 10 h)
 
 -- the test of a block's call
-pub call_told : (b : List ℕ) (entry : ℕ) (u : Bool) → get_or b 0 0 < 256 → get_or b 1 0 < 256 → u ≡ unused_empty (fields_of b)
+call_told : (b : List ℕ) (entry : ℕ) (u : Bool) → get_or b 0 0 < 256 → get_or b 1 0 < 256 → u ≡ unused_empty (fields_of b)
     → eqb (get_or b 0 0) entry && (((ltb 6 (get_or b 0 0) && ltb (get_or b 0 0) 10) && eqb (get_or b 2 0) 0) && (ltb (get_or b 1 0) 4 && u)) ≡ eqb (fields_of b).entry entry && is_call (fields_of b)
 unfolding is_call fields_of
 call_told b entry u h k e = rw (e, kind_range (get_or b 0 0) h, chip_range (get_or b 1 0) k)
+
+-- of a number that is the entry's the test may be made of the entry
+own_range : (x e : ℕ) (o p : Bool) → eqb x e && (((ltb 6 e && ltb e 10) && o) && p) ≡ eqb x e && (((ltb 6 x && ltb x 10) && o) && p)
+own_range x e o p = go (eqb x e) refl
+  where
+    go : (t : Bool) → eqb x e ≡ t → t && (((ltb 6 e && ltb e 10) && o) && p) ≡ t && (((ltb 6 x && ltb x 10) && o) && p)
+    go true h = ap (λ (m : ℕ). ((ltb 6 m && ltb m 10) && o) && p) (sym (eqb-true x e h))
+    go false h = refl
+
+pub call_by_entry : (b : List ℕ) (entry : ℕ) (u : Bool) → get_or b 0 0 < 256 → get_or b 1 0 < 256 → u ≡ unused_empty (fields_of b)
+    → eqb (get_or b 0 0) entry && (((ltb 6 entry && ltb entry 10) && eqb (get_or b 2 0) 0) && (ltb (get_or b 1 0) 4 && u)) ≡ eqb (fields_of b).entry entry && is_call (fields_of b)
+call_by_entry b entry u h k e = own_range (get_or b 0 0) entry _ _ ∙ call_told b entry u h k e
 
 -- ---- a byte to keep
 

@@ -1,10 +1,12 @@
 // After an error: `abort_slave_transfer`.
-ghost use Rattle.std.specs.Prelude.{◌≡◌, ℕ, length};
-ghost use Rattle.block.specs.Bytes32.{block_size};
-ghost use Rattle.slave.specs.Machine.{without_slave_transfers};
-ghost use Rattle.slave_step.specs.Held.{Group};
+ghost use Rattle.std.specs.Prelude.{◌≡◌};
+ghost use Rattle.slave.specs.Machine.{without_slave_transfers, abort_slave_transfer_move};
+ghost use Rattle.stage_numbers.specs.SlaveStage.{abort_stage_of};
+ghost use Rattle.slave_step.specs.Held.{Call, image, Stands, Group, Moves};
 
+use crate::here::Here;
 use crate::{go, put, stage};
+use asked::Asked;
 use registers::{Register, bits, fields, word};
 
 // CTLR2 without its transfer bits.
@@ -15,13 +17,12 @@ fn disable_slave_transfers(control: u16) -> u16
 }
 
 // disable_slave_transfers; then STOP, if the slave is still addressed.
-pub fn abort_slave_transfer(block: &mut [u8], what: u8, phase: u8, answer: u16) -> u64
-    requires { length block.old ≡ block_size }
-    ensures { (entry size : ℕ) → Group 9 entry size what phase answer block.old block.new result }
+#[tactic(auto, using(crate::proofs::Laws::end_at), unfolding(block::specs::Bytes32::bytes_of, images::specs::SlaveImage::slave_fields, crate::specs::Held::block_at, crate::specs::Held::fields_at))]
+fn abort_phase(block: &mut [u8; 32], phase: u8, answer: u16) -> Asked
+    ghost s: { Call }
+    requires { image s 9 0 phase ≡ block.old }
+    ensures { Moves s.setting (abort_slave_transfer_move (abort_stage_of phase) s.progress answer) block.new result }
 {
-    if !((what == 0) & (phase < 5)) {
-        return asked::refused();
-    }
     match phase {
         stage::DISABLE_READ => {
             let disabled = disable_slave_transfers(answer);
@@ -35,12 +36,12 @@ pub fn abort_slave_transfer(block: &mut [u8], what: u8, phase: u8, answer: u16) 
         }
         stage::DISABLE_WRITE => {
             put::phase(block, stage::BUSY);
-            asked::read(Register::Star2)
+            Asked::read(Register::Star2)
         }
         stage::BUSY => {
             if word::bit(answer, bits::BUSY) & !word::bit(answer, bits::MSL) {
                 put::phase(block, stage::STOP_READ);
-                return asked::read(Register::Ctlr1);
+                return Asked::read(Register::Ctlr1);
             }
             go::ends(block)
         }
@@ -50,4 +51,17 @@ pub fn abort_slave_transfer(block: &mut [u8], what: u8, phase: u8, answer: u16) 
         }
         _ => go::ends(block),
     }
+}
+
+#[inline(always)]
+#[tactic(auto, using(crate::proofs::GroupLaws::abort_decides))]
+pub fn abort_slave_transfer(block: &mut [u8; 32], here: Here) -> Asked
+    ghost s: { Call }
+    requires { Stands s here 9 block.old }
+    ensures { Group 9 s here block.old block.new result }
+{
+    if !((here.what == 0) & (here.phase < 5)) {
+        return Asked::refused();
+    }
+    abort_phase(block, here.phase, here.answer)
 }

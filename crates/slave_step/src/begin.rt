@@ -1,17 +1,18 @@
 // Where a slave call begins.
-ghost use Rattle.std.specs.Prelude.{◌≡◌, ℕ, length};
-ghost use Rattle.block.specs.Bytes32.{block_size};
+ghost use Rattle.std.specs.Prelude.{◌≡◌, ℕ};
 ghost use Rattle.images.specs.Numbers.{chip_of};
 ghost use Rattle.slave.specs.Machine.{start};
 ghost use Rattle.slave_step.specs.Held.{begun_fields, first_fields, Moves};
 
 use crate::stage;
+use asked::Asked;
 use block::{Fields, bytes32};
 use images::numbers;
 use registers::Register;
 use slave::Kind;
 
 // The numbers of a call that has done nothing yet, at the first stage of a group.
+#[tactic(auto, unfolding(crate::specs::Held::begun_fields))]
 fn begun_fields(entry: u8, chip: u8, group: u8) -> Fields
     ensures { result ≡ begun_fields entry chip group }
 {
@@ -40,6 +41,7 @@ fn begun_fields(entry: u8, chip: u8, group: u8) -> Fields
 }
 
 // Listening begins with `clear_stopf`, a response with its loop.
+#[tactic(auto, using(crate::proofs::BeginLaws::listen_first, crate::proofs::BeginLaws::receive_first, crate::proofs::BeginLaws::reply_first))]
 fn first_fields(kind: Kind, chip: u8) -> Fields
     ensures { result ≡ first_fields kind chip }
 {
@@ -51,10 +53,9 @@ fn first_fields(kind: Kind, chip: u8) -> Fields
 }
 
 // Both read STAR1 first.
-pub fn begin(block: &mut [u8], kind: Kind, chip: u8) -> u64
-    requires { length block.old ≡ block_size }
+pub fn begin(block: &mut [u8; 32], kind: Kind, chip: u8) -> Asked
     ensures { (size : ℕ) → Moves (record { chip = chip_of chip; kind = kind; size = size }) (start kind) block.new result }
 {
     bytes32::put(block, first_fields(kind, chip));
-    asked::read(Register::Star1)
+    Asked::read(Register::Star1)
 }

@@ -1,14 +1,14 @@
 // The whole test of a block beside its stage, its count and its ending: it is one of this entry's calls.
-ghost use Rattle.std.specs.Prelude.{◌≡◌, ◌&&◌, eqb, length};
-ghost use Rattle.block.specs.Bytes32.{block_size, fields_of};
+ghost use Rattle.std.specs.Prelude.{◌≡◌, ◌&&◌, eqb};
+ghost use Rattle.block.specs.Bytes32.{fields_of};
 ghost use Rattle.images.specs.SlaveImage.{is_call, unused_empty};
 
 use block::{at, bytes32};
 use images::numbers;
 
 // Every number that a slave call has no use for is 0.
-fn unused_empty(block: &[u8]) -> bool
-    requires { length block.now ≡ block_size }
+#[tactic(auto, unfolding(images::specs::SlaveImage::unused_empty, block::specs::Bytes32::fields_of))]
+fn unused_empty(block: &[u8; 32]) -> bool
     ensures { result ≡ unused_empty (fields_of block.now) }
 {
     ((bytes32::word_at(block, at::RUN) == 0)
@@ -19,12 +19,11 @@ fn unused_empty(block: &[u8]) -> bool
 }
 
 // Byte 0 is the entry, one of the slave's; byte 1 a chip.
-pub fn is_call(block: &[u8], entry: u8) -> bool
-    requires { length block.now ≡ block_size }
+#[tactic(auto, using(crate::proofs::StepLaws::call_by_entry))]
+pub fn is_call(block: &[u8; 32], entry: u8) -> bool
     ensures { result ≡ (eqb (fields_of block.now).entry entry && is_call (fields_of block.now)) }
 {
-    let first = block[at::ENTRY];
-    (first == entry)
-        & ((((numbers::INIT_SLAVE < first) & (first < 10)) & (block[at::OPTION] == 0))
+    (block[at::ENTRY] == entry)
+        & ((((numbers::INIT_SLAVE < entry) & (entry < 10)) & (block[at::OPTION] == 0))
             & ((block[at::CHIP] < 4) & unused_empty(block)))
 }

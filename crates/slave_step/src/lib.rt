@@ -2,17 +2,18 @@
 // whether the stage fits, moves, writes the bytes that change, and says what is asked for next.
 #![tactic(auto)]
 
-pub mod abort;
+mod abort;
 pub mod begin;
-pub mod clear;
-pub mod go;
-pub mod held;
+mod clear;
+mod go;
+mod held;
+mod here;
 pub mod keep;
-pub mod listen;
-pub mod poll;
+mod listen;
+mod poll;
 pub mod put;
-pub mod ready;
-pub mod receive;
-pub mod send;
-pub mod stage;
+mod ready;
+mod receive;
+mod send;
+mod stage;
 pub mod step;

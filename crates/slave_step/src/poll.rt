@@ -1,75 +1,82 @@
 // A turn of the three loops, by its status word; errors and the clock, where a turn finds nothing to do.
-ghost use Rattle.std.specs.Prelude.{◌≡◌, ℕ, ◌≤◌, pred, length};
-ghost use Rattle.block.specs.Bytes32.{block_size};
-ghost use Rattle.slave.specs.declared.stage.ErrorStage.TheVariants as errors;
-ghost use Rattle.slave.specs.declared.stage.StopfFor.TheVariants as stopf;
-ghost use Rattle.slave.specs.declared.stage.StopfStage.TheVariants as clearing;
-ghost use Rattle.slave.specs.declared.stage.Stage.TheVariants.{ClearStopf};
-ghost use Rattle.slave.specs.declared.state.Progress.{Progress};
-ghost use Rattle.slave.specs.declared.state.Setting.{Setting};
-ghost use Rattle.slave.specs.Machine.{to, ends_with, slave_handle_errors, blocking_listen, blocking_respond_to_write, blocking_respond_to_read, leftover, sent_taken_off, check_errors_and_time};
-ghost use Rattle.access.specs.Endings.{returned_both};
-ghost use Rattle.slave_step.specs.Held.{block_at, Moves, Goes, GoesCounting, Group, GroupCounting};
+#![tactic(auto, unfolding(block::specs::Bytes32::bytes_of, images::specs::SlaveImage::slave_fields, crate::specs::Held::block_at, crate::specs::Held::fields_at))]
 
+ghost use Rattle.std.specs.Prelude.{◌≡◌, ◌≤◌, pred};
+ghost use Rattle.registers.specs.declared.register.Register.TheVariants.{Star1};
+ghost use Rattle.access.specs.declared.need.Need.TheVariants as need;
+ghost use Rattle.access.specs.Endings.{returned_both};
+ghost use Rattle.slave.specs.declared.stage.ErrorStage.TheVariants as errors;
+ghost use Rattle.slave.specs.Machine.{slave_handle_errors, blocking_listen, blocking_respond_to_write, blocking_respond_to_read, leftover, sent_taken_off, check_errors_and_time};
+ghost use Rattle.stage_numbers.specs.SlaveStage.{error_stage_of};
+ghost use Rattle.slave_step.specs.Held.{Call, image, Stands, Group, Moves};
+ghost use Rattle.slave_step.specs.Stores.{at_stage, with_ending};
+
+use crate::here::Here;
 use crate::{go, put, stage};
 use access::{Error, ending, next};
+use asked::Asked;
 use block::{at, bytes32};
-use errors::Checked;
-use images::{end_image, numbers};
+use images::numbers;
 use registers::{Register, bits, flags, word};
 
 // The status word: its error flags are to be cleared, or there is none.
-fn slave_handle_errors(block: &mut [u8], status: u16) -> u64
-    requires { length block.old ≡ block_size }
-    ensures { Goes block.old block.new result (λ (d : Progress). slave_handle_errors d status) }
+fn slave_handle_errors(block: &mut [u8; 32], status: u16) -> Asked
+    ghost s: { Call }
+    requires { image s 3 0 0 ≡ block.old }
+    ensures { Moves s.setting (slave_handle_errors s.progress status) block.new result }
 {
     let observed = flags::error_flags(status);
     if observed != 0 {
         put::saves(block, status);
         put::to(block, stage::ERRORS, 0, stage::ERRORS_CLEAR);
-        return asked::write(Register::Star1, flags::clear_error(observed));
+        return Asked::write(Register::Star1, flags::clear_error(observed));
     }
     put::to(block, stage::ERRORS, 0, stage::ERRORS_CLOCK);
-    asked::clock()
+    Asked::clock()
 }
 
-fn blocking_listen(block: &mut [u8], status: u16) -> u64
-    requires { length block.old ≡ block_size }
-    ensures { Goes block.old block.new result (λ (d : Progress). blocking_listen d status) }
+fn blocking_listen(block: &mut [u8; 32], status: u16) -> Asked
+    ghost s: { Call }
+    requires { image s 3 0 0 ≡ block.old }
+    ensures { Moves s.setting (blocking_listen s.progress status) block.new result }
 {
     if word::bit(status, bits::ADDR) {
         put::to(block, stage::MATCH, 0, stage::MATCH_STATUS);
-        return asked::read(Register::Star2);
+        return Asked::read(Register::Star2);
     }
     slave_handle_errors(block, status)
 }
 
 // What is returned is known, and STOPF is to be cleared.
-fn stops(block: &mut [u8], value: u16, second: u16) -> u64
-    requires { length block.old ≡ block_size }
-    ensures { Goes block.old block.new result (λ (d : Progress). to (ClearStopf stopf.End clearing.Status) (ends_with (returned_both value second) d)) }
+fn stops(block: &mut [u8; 32], value: u16, second: u16) -> Asked
+    ensures block { block.new ≡ at_stage 0 1 0 (with_ending (returned_both value second) block.old) }
+    ensures asks { result ≡ need.Read Star1 }
 {
-    end_image::put(block, ending::returned_both(value, second));
+    put::ending(block, ending::returned_both(value, second));
     put::to(
         block,
         stage::CLEAR_STOPF,
         stage::FOR_END,
         stage::STOPF_STATUS,
     );
-    asked::read(Register::Star1)
+    Asked::read(Register::Star1)
 }
 
 // RXNE is looked at before all else. A byte past the buffer is read and dropped.
-fn blocking_respond_to_write(block: &mut [u8], size: u16, count: u32, status: u16) -> u64
-    requires { length block.old ≡ block_size }
-    ensures { count ≤ size → GoesCounting size count block.old block.new result (λ (d : Progress). blocking_respond_to_write d status) }
+fn blocking_respond_to_write(block: &mut [u8; 32], size: u16, count: u32, status: u16) -> Asked
+    ghost s: { Call }
+    requires held { image s 3 0 0 ≡ block.old }
+    requires lent { s.setting.size ≡ size }
+    requires counted { s.progress.count ≡ count }
+    requires room { count ≤ size }
+    ensures { Moves s.setting (blocking_respond_to_write s.progress status) block.new result }
 {
     if word::bit(status, bits::RXNE) {
         put::to(block, stage::RECEIVE, 0, 0);
         if count < size as u32 {
-            return asked::keep_at(count);
+            return Asked::keep(count);
         }
-        return asked::drop();
+        return Asked::drop();
     }
     if word::bit(status, bits::STOPF) {
         return stops(block, (count % 65536) as u16, 0);
@@ -110,16 +117,19 @@ fn taken_off(status: u16, sent: u32) -> u32
 
 // AF is the master's NACK behind the last byte; TXE asks for the next. The second count has the byte taken off at AF too, where the
 // Rust's keeps it.
-fn blocking_respond_to_read(block: &mut [u8], size: u16, count: u32, status: u16) -> u64
-    requires { length block.old ≡ block_size }
-    ensures { GoesCounting size count block.old block.new result (λ (d : Progress). blocking_respond_to_read size d status) }
+fn blocking_respond_to_read(block: &mut [u8; 32], size: u16, count: u32, status: u16) -> Asked
+    ghost s: { Call }
+    requires held { image s 3 0 0 ≡ block.old }
+    requires lent { s.setting.size ≡ size }
+    requires counted { s.progress.count ≡ count }
+    ensures { Moves s.setting (blocking_respond_to_read size s.progress status) block.new result }
 {
     if word::bit(status, bits::AF) {
         let left = left_over(size, count);
         let second = left_over(size, taken_off(status, count));
-        end_image::put(block, ending::returned_both(left, second));
+        put::ending(block, ending::returned_both(left, second));
         put::to(block, stage::CLEAR_AF, 0, stage::HALF_READ);
-        return asked::read(Register::Star1);
+        return Asked::read(Register::Star1);
     }
     if word::bit(status, bits::STOPF) {
         let left = left_over(size, taken_off(status, count));
@@ -131,58 +141,58 @@ fn blocking_respond_to_read(block: &mut [u8], size: u16, count: u32, status: u16
     }
     if word::bit(status, bits::TXE) {
         put::to(block, stage::SEND, 0, 0);
-        return asked::send_at(count);
+        return Asked::send(count);
     }
     slave_handle_errors(block, status)
 }
 
 // let star1 = regs.star1().read()
-pub fn polls(
-    block: &mut [u8],
-    entry: u8,
-    size: u16,
-    count: u32,
-    what: u8,
-    phase: u8,
-    answer: u16,
-) -> u64
-    requires { length block.old ≡ block_size }
-    ensures { GroupCounting 3 entry size count what phase answer block.old block.new result }
+#[inline(always)]
+#[tactic(auto, using(crate::proofs::GroupLaws::poll_decides, crate::proofs::MoveLaws::room, crate::proofs::Laws::reads))]
+pub fn polls(block: &mut [u8; 32], here: Here) -> Asked
+    ghost s: { Call }
+    requires { Stands s here 3 block.old }
+    ensures { Group 3 s here block.old block.new result }
 {
-    if !((what == 0) & (phase == 0)) {
-        return asked::refused();
+    if !((here.what == 0) & (here.phase == 0)) {
+        return Asked::refused();
     }
-    match entry {
-        numbers::LISTEN => blocking_listen(block, answer),
-        numbers::RESPOND_TO_WRITE => blocking_respond_to_write(block, size, count, answer),
-        _ => blocking_respond_to_read(block, size, count, answer),
+    match here.entry {
+        numbers::LISTEN => blocking_listen(block, here.answer),
+        numbers::RESPOND_TO_WRITE => blocking_respond_to_write(
+            block,
+            here.size,
+            here.count,
+            here.answer,
+        ),
+        _ => blocking_respond_to_read(block, here.size, here.count, here.answer),
     }
 }
 
 // The flags of the saved word are cleared: the first decides, and AF decides nothing.
-fn judged(block: &mut [u8]) -> u64
-    requires { length block.old ≡ block_size }
-    ensures { (g : Setting) (d : Progress) (p : ℕ) → block.old ≡ block_at g d 8 0 p → Moves g (check_errors_and_time g.chip errors.Clear d 0) block.new result }
+#[tactic(auto, using(crate::proofs::Laws::word_at_lem, images::proofs::NumberLaws::chip_back), unfolding(block::specs::Bytes32::bytes_of, images::specs::SlaveImage::slave_fields, crate::specs::Held::block_at, crate::specs::Held::fields_at))]
+fn judged(block: &mut [u8; 32]) -> Asked
+    ghost s: { Call }
+    requires { image s 8 0 0 ≡ block.old }
+    ensures { Moves s.setting (check_errors_and_time s.setting.chip errors.Clear s.progress 0) block.new result }
 {
     let status = bytes32::word_at(block, at::WORD);
     let chip = numbers::chip_of(block[at::CHIP]);
     match errors::error_of(status, chip, false) {
-        Checked::Fine => {
+        None => {
             put::phase(block, stage::ERRORS_CLOCK);
-            asked::clock()
+            Asked::clock()
         }
-        Checked::Failed(failure) => go::fails(block, failure),
+        Some(failure) => go::fails(block, failure),
     }
 }
 
 // slave_handle_errors(star1)?; timeout.check().ok_or(Error::Timeout)?
-pub fn check_errors_and_time(block: &mut [u8], what: u8, phase: u8, answer: u16) -> u64
-    requires { length block.old ≡ block_size }
-    ensures { (entry size : ℕ) → Group 8 entry size what phase answer block.old block.new result }
+fn error_phase(block: &mut [u8; 32], phase: u8, answer: u16) -> Asked
+    ghost s: { Call }
+    requires { image s 8 0 phase ≡ block.old }
+    ensures { Moves s.setting (check_errors_and_time s.setting.chip (error_stage_of phase) s.progress answer) block.new result }
 {
-    if !((what == 0) & (phase < 2)) {
-        return asked::refused();
-    }
     match phase {
         stage::ERRORS_CLEAR => judged(block),
         _ => {
@@ -190,7 +200,20 @@ pub fn check_errors_and_time(block: &mut [u8], what: u8, phase: u8, answer: u16)
                 return go::fails(block, ending::failure_of(Error::Timeout));
             }
             put::to(block, stage::POLL, 0, 0);
-            asked::read(Register::Star1)
+            Asked::read(Register::Star1)
         }
     }
+}
+
+#[inline(always)]
+#[tactic(auto, using(crate::proofs::GroupLaws::errors_decides))]
+pub fn check_errors_and_time(block: &mut [u8; 32], here: Here) -> Asked
+    ghost s: { Call }
+    requires { Stands s here 8 block.old }
+    ensures { Group 8 s here block.old block.new result }
+{
+    if !((here.what == 0) & (here.phase < 2)) {
+        return Asked::refused();
+    }
+    error_phase(block, here.phase, here.answer)
 }

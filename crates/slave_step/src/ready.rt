@@ -1,53 +1,53 @@
 // What a step asks of the block before it looks at the stage: its count, and its ending.
-ghost use Rattle.std.specs.Prelude.{◌≡◌, leb, length, get_or};
-ghost use Rattle.registers.specs.declared.chip.Chip.{Chip};
-ghost use Rattle.block.specs.Bytes32.{block_size};
+ghost use Rattle.std.specs.Prelude.{◌≡◌, leb};
+ghost use Rattle.block.specs.Bytes32.{fields_of, long_at};
 ghost use Rattle.images.specs.EndImage.{ending_at};
-ghost use Rattle.images.specs.Numbers.{chip_of};
 ghost use Rattle.images.specs.SlaveImage.{kind_of};
-ghost use Rattle.slave.specs.declared.state.Progress.{Progress};
 ghost use Rattle.slave.specs.Fits.{limit, can_return, returns_in};
-ghost use Rattle.slave_step.specs.Held.{setting_at, closing, ready_at};
+ghost use Rattle.slave_step.specs.Held.{said_in, closing, is_seen};
 
+use crate::here::Here;
 use crate::{poll, stage};
 use block::{at, bytes32};
 use images::{end_image, numbers};
 
 // The count is at most the buffer's length, or one more than the data's.
-fn counts(entry: u8, size: u16, count: u32) -> bool
-    ensures { result ≡ leb count (limit (kind_of entry) size) }
+#[tactic(auto, using(crate::proofs::Laws::reads))]
+fn counts(here: Here) -> bool
+    ensures { result ≡ leb here.count (limit (kind_of here.entry) here.size) }
 {
-    match entry {
-        numbers::LISTEN => count <= 0,
-        numbers::RESPOND_TO_WRITE => count <= size as u32,
-        _ => count <= size as u32 + 1,
+    match here.entry {
+        numbers::LISTEN => here.count <= 0,
+        numbers::RESPOND_TO_WRITE => here.count <= here.size as u32,
+        _ => here.count <= here.size as u32 + 1,
     }
 }
 
 // What a call can return: a command, the bytes stored, or the bytes left over twice, with one taken off the count or none. The first is
 // the second, or has none taken off.
-fn can_return(entry: u8, size: u16, count: u32, value: u16, second: u16) -> bool
-    ensures { result ≡ can_return (kind_of entry) size count value second }
+#[tactic(auto, using(crate::proofs::Laws::reads))]
+fn can_return(here: Here, value: u16, second: u16) -> bool
+    ensures { result ≡ can_return (kind_of here.entry) here.size here.count value second }
 {
-    match entry {
+    match here.entry {
         numbers::LISTEN => (value < 12288) & (second == 0),
-        numbers::RESPOND_TO_WRITE => (value as u32 == count) & (second == 0),
+        numbers::RESPOND_TO_WRITE => (value as u32 == here.count) & (second == 0),
         _ => {
-            let none_off = poll::left_over(size, count);
-            let one_off = poll::left_over(size, poll::one_less(count));
+            let none_off = poll::left_over(here.size, here.count);
+            let one_off = poll::left_over(here.size, poll::one_less(here.count));
             ((second == none_off) | (second == one_off)) & ((value == second) | (value == none_off))
         }
     }
 }
 
 // What is to be returned is known.
-fn returns(block: &[u8], entry: u8, size: u16, count: u32) -> bool
-    requires { length block.now ≡ block_size }
-    ensures { result ≡ returns_in (kind_of entry) size count (ending_at block.now) }
+#[tactic(auto, using(crate::proofs::ReadyLaws::returns_told))]
+fn returns(block: &[u8; 32], here: Here) -> bool
+    ensures { result ≡ returns_in (kind_of here.entry) here.size here.count (ending_at block.now) }
 {
     let value = bytes32::word_at(block, at::VALUE);
     let second = bytes32::word_at(block, at::EXTRA);
-    (block[at::ERROR] == 0) & can_return(entry, size, count, value, second)
+    (block[at::ERROR] == 0) & can_return(here, value, second)
 }
 
 // The stages in which what is to be returned is known: STOPF is cleared at the end of a response, or AF.
@@ -58,15 +58,17 @@ fn is_closing(group: u8, what: u8) -> bool
 }
 
 // The count is one that the call can have, and the ending one that the stages of the group have.
-pub fn is_ready(block: &[u8], entry: u8, size: u16, count: u32, group: u8, what: u8) -> bool
-    requires { length block.now ≡ block_size }
-    ensures { (chip : Chip) (d : Progress) → chip ≡ chip_of (get_or block.now 1 0) → d.count ≡ count → d.ending ≡ ending_at block.now → result ≡ ready_at (setting_at chip entry size) d group what }
+#[inline(always)]
+#[tactic(auto, using(crate::proofs::ReadyLaws::seen_closing, crate::proofs::ReadyLaws::seen_failed, crate::proofs::ReadyLaws::seen_done))]
+pub fn is_ready(block: &[u8; 32], here: Here, group: u8) -> bool
+    requires { here.count ≡ long_at block.now 24 }
+    ensures { result ≡ is_seen (said_in here.entry here.size (fields_of block.now)) group here.what }
 {
-    if is_closing(group, what) {
-        return counts(entry, size, count) & returns(block, entry, size, count);
+    if is_closing(group, here.what) {
+        return counts(here) & returns(block, here);
     }
     if group == stage::ABORT {
-        return counts(entry, size, count) & end_image::has_failed(block, false);
+        return counts(here) & end_image::has_failed(block, false);
     }
-    counts(entry, size, count) & end_image::is_done(block)
+    counts(here) & end_image::is_done(block)
 }

@@ -1,25 +1,22 @@
 // A byte that a master writes.
-ghost use Rattle.std.specs.Prelude.{◌≡◌, ℕ, length};
-ghost use Rattle.block.specs.Bytes32.{block_size};
-ghost use Rattle.slave_step.specs.Held.{GroupCounting};
+ghost use Rattle.std.specs.Prelude.{◌≡◌};
+ghost use Rattle.slave_step.specs.Held.{Call, Stands, Group};
 
-use crate::{put, stage};
+use crate::go;
+use crate::here::Here;
+use asked::Asked;
 use images::numbers;
-use registers::Register;
 
 // let byte = regs.datar().read().datar(): it counts where there was room for it.
-pub fn received(block: &mut [u8], entry: u8, size: u16, count: u32, what: u8, phase: u8) -> u64
-    requires { length block.old ≡ block_size }
-    ensures { (answer : ℕ) → GroupCounting 5 entry size count what phase answer block.old block.new result }
+#[inline(always)]
+#[tactic(auto, using(crate::proofs::GroupLaws::receive_decides), unfolding(block::specs::Bytes32::bytes_of, images::specs::SlaveImage::slave_fields, crate::specs::Held::block_at, crate::specs::Held::fields_at))]
+pub fn received(block: &mut [u8; 32], here: Here) -> Asked
+    ghost s: { Call }
+    requires { Stands s here 5 block.old }
+    ensures { Group 5 s here block.old block.new result }
 {
-    if !((what == 0) & ((phase == 0) & (entry == numbers::RESPOND_TO_WRITE))) {
-        return asked::refused();
+    if !((here.what == 0) & ((here.phase == 0) & (here.entry == numbers::RESPOND_TO_WRITE))) {
+        return Asked::refused();
     }
-    if count < size as u32 {
-        put::counted(block, count + 1);
-        put::to(block, stage::POLL, 0, 0);
-        return asked::read(Register::Star1);
-    }
-    put::to(block, stage::POLL, 0, 0);
-    asked::read(Register::Star1)
+    go::counts(block, here.count, here.size as u32)
 }

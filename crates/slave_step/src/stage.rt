@@ -1,4 +1,5 @@
-// The stages by number, as they stand in the block: the group, which of the group's, and the phase (docs/STATE.md).
+// The stages by number, as they stand in the block: the group, which of the group's, and the phase (docs/STATE.md). A step moves these
+// numbers: with crate `slave`'s enums in their place it takes about a third more instructions, as was measured of a master's.
 
 // Groups.
 pub const CLEAR_STOPF: u8 = 0;

@@ -1,58 +1,70 @@
 // The step of a slave call.
-ghost use Rattle.std.specs.Prelude.{◌≡◌, length};
-ghost use Rattle.block.specs.Bytes32.{block_size};
-ghost use Rattle.slave_step.specs.Held.{Step, StepsFrom, held_in};
+ghost use Rattle.std.specs.Prelude.{◌≡◌, get_or};
+ghost use Rattle.slave_step.specs.Held.{Call, Stands, Step, StepsFrom, held_in};
 
+use crate::here::Here;
 use crate::{abort, clear, held, listen, poll, put, ready, receive, send, stage};
+use asked::Asked;
 use block::at;
 use images::end_image;
 
 // By the group of its stage. A call that has ended takes no step, and no stage is of another group.
-pub fn step_at(
-    block: &mut [u8],
-    entry: u8,
-    size: u16,
-    count: u32,
-    group: u8,
-    what: u8,
-    phase: u8,
-    answer: u16,
-) -> u64
-    requires { length block.old ≡ block_size }
-    ensures { Step group entry size count what phase answer block.old block.new result }
+#[inline(always)]
+#[tactic(auto, using(crate::proofs::StepLaws::no_group))]
+fn step_at(block: &mut [u8; 32], here: Here, group: u8) -> Asked
+    ghost s: { Call }
+    requires { Stands s here group block.old }
+    ensures { Step group s here block.old block.new result }
 {
     match group {
-        stage::CLEAR_STOPF => clear::clear_stopf(block, entry, what, phase, answer),
-        stage::STALE => clear::clear_slave_stale_flags(block, entry, what, phase, answer),
-        stage::ARM => listen::arms(block, entry, what, phase, answer),
-        stage::POLL => poll::polls(block, entry, size, count, what, phase, answer),
-        stage::MATCH => listen::decode_slave_address(block, entry, what, phase, answer),
-        stage::RECEIVE => receive::received(block, entry, size, count, what, phase),
-        stage::SEND => send::sent(block, entry, size, count, what, phase),
-        stage::CLEAR_AF => clear::clear_af(block, entry, what, phase, answer),
-        stage::ERRORS => poll::check_errors_and_time(block, what, phase, answer),
-        stage::ABORT => abort::abort_slave_transfer(block, what, phase, answer),
-        _ => asked::refused(),
+        stage::CLEAR_STOPF => clear::clear_stopf(block, here),
+        stage::STALE => clear::clear_slave_stale_flags(block, here),
+        stage::ARM => listen::arms(block, here),
+        stage::POLL => poll::polls(block, here),
+        stage::MATCH => listen::decode_slave_address(block, here),
+        stage::RECEIVE => receive::received(block, here),
+        stage::SEND => send::sent(block, here),
+        stage::CLEAR_AF => clear::clear_af(block, here),
+        stage::ERRORS => poll::check_errors_and_time(block, here),
+        stage::ABORT => abort::abort_slave_transfer(block, here),
+        _ => Asked::refused(),
     }
 }
 
-// The whole test of a block for an entry, with so many bytes lent, and the step.
-pub fn step(block: &mut [u8], entry: u8, size: usize, answer: u16) -> u64
-    requires { length block.old ≡ block_size }
+// The whole test of a block for an entry, with so many bytes lent, and the step, where this is the group of its stage.
+#[inline(always)]
+fn step_of(block: &mut [u8; 32], entry: u8, size: usize, group: u8, answer: u16) -> Asked
+    requires { get_or block.old 3 0 ≡ group }
     ensures { StepsFrom (held_in entry block.old) size answer block.old block.new result }
 {
     if 65535 < size {
-        return asked::refused();
+        return Asked::refused();
     }
-    let lent = size as u16;
-    let count = put::count_at(block);
-    let group = block[at::GROUP];
-    let what = block[at::WHAT];
-    let phase = block[at::PHASE];
+    let here = Here {
+        entry,
+        size: size as u16,
+        count: put::count_at(block),
+        what: block[at::WHAT],
+        phase: block[at::PHASE],
+        answer,
+    };
     if !(held::is_call(block, entry)
-        & (end_image::is_plain(block) & ready::is_ready(block, entry, lent, count, group, what)))
+        & (end_image::is_plain(block) & ready::is_ready(block, here, group)))
     {
-        return asked::refused();
+        return Asked::refused();
     }
-    step_at(block, entry, lent, count, group, what, phase, answer)
+    step_at(block, here, group)
+}
+
+// The groups of a response's loop are apart from the others, so that each has a step in which the compiler knows the group.
+#[inline(always)]
+pub fn step(block: &mut [u8; 32], entry: u8, size: usize, answer: u16) -> Asked
+    ensures { StepsFrom (held_in entry block.old) size answer block.old block.new result }
+{
+    match block[at::GROUP] {
+        stage::POLL => step_of(block, entry, size, stage::POLL, answer),
+        stage::RECEIVE => step_of(block, entry, size, stage::RECEIVE, answer),
+        stage::SEND => step_of(block, entry, size, stage::SEND, answer),
+        group => step_of(block, entry, size, group, answer),
+    }
 }

@@ -1,0 +1,4 @@
+use Rattle.slave_step.proofs.poll.blocking_listen.Given as goal
+
+abbrev pub ghost-slave_handle_errors : goal.ghost-slave_handle_errors
+ghost-slave_handle_errors g a = g.s
