@@ -1,5 +1,3 @@
-pub mod OnBlockLaws
 pub mod KeptLaws
 pub mod TransferLaws
-pub mod InitLaws
 pub mod ResponseLaws

@@ -1,6 +1,5 @@
-pub mod OnBlock
-pub mod Kept
 pub mod Transfer
 pub mod Response
 pub mod Init
 pub mod InitSlave
+pub mod Laws

@@ -1,55 +1,82 @@
 // `init`.
-ghost use Rattle.std.specs.Prelude.{◌≡◌, cond, length};
-ghost use Rattle.block.specs.Bytes32.{block_size};
-ghost use Rattle.calls.specs.OnBlock.{standing, step_on, Does};
-ghost use Rattle.calls.specs.Init.{in_range, fitting, init_held, init_on, init_begin};
+ghost use Rattle.std.specs.Prelude.{◌≡◌, cond};
+ghost use Rattle.calls.specs.Init.{in_range, fitting, init_call};
+ghost use Rattle.calls.specs.Laws.{init_laws};
 
-use crate::stepped;
-use access::{Error, Need, need};
+use access::{Error, Need};
+use asked::Asked;
 use block::bytes32;
+use call::by_state::{self, States};
+use call::{Call, OnBlock};
 use images::init_image;
-use images::init_image::InitFound;
 use registers::Chip;
-use timing::init;
-use timing::init::{Stage, State};
-use timing::settings::{Duty, Timed, Timing};
+use timing::init::{self, Stage, State};
+use timing::settings::{Duty, Timing};
 
-// A state in its block, with what it needs.
-fn stands(block: &mut [u8], state: State) -> Need
-    requires { length block.old ≡ block_size }
-    ensures { Does (standing init_on state) result block.new }
-{
-    bytes32::put(block, init_image::init_fields(state));
-    init::owed(state)
+// What `init` is asked for.
+#[derive(Clone, Copy)]
+pub struct Wanted {
+    pub input: u32,
+    pub frequency: u32,
+    pub duty: Duty,
+    pub chip: Chip,
 }
 
-pub fn begin(
-    block: &mut [u8],
-    unknown: bool,
-    input: u32,
-    frequency: u32,
-    duty: Duty,
-    chip: Chip,
-) -> Need
-    ensures { Does (init_begin unknown chip input frequency duty block.old) result block.new }
-{
-    if block.len() != bytes32::BLOCK_SIZE {
-        return stepped::refused(Error::InvalidState);
+#[derive(Clone, Copy)]
+pub struct Init;
+
+impl OnBlock for Init {
+    type Args = Wanted;
+
+    type State = State;
+
+    type Store = [u8; 32];
+
+    ghost on = { λ c. init_call };
+
+    ghost laws = { λ c. init_laws };
+}
+
+impl States for Init {
+    fn first(&self, wanted: Wanted) -> Result<State, Error> {
+        let timing = timing::timing::timing(
+            wanted.input,
+            wanted.frequency,
+            wanted.duty,
+            wanted.chip,
+        )?;
+        Ok(State {
+            chip: wanted.chip,
+            timing,
+            stage: Stage::DisableRead,
+            saved: 0,
+        })
     }
-    if unknown {
-        return stepped::refused(Error::InvalidArgument);
+
+    fn owed(&self, state: State) -> Need {
+        init::owed(state)
     }
-    match timing::timing::timing(input, frequency, duty, chip) {
-        Timed::At(settings) => stands(
-            block,
-            State {
-                chip,
-                timing: settings,
-                stage: Stage::DisableRead,
-                saved: 0,
-            },
-        ),
-        Timed::Refused(error) => stepped::refused(error),
+
+    fn advance(&self, state: State, answer: u16) -> State {
+        init::advance(state, answer)
+    }
+
+    fn found(&self, block: &[u8; 32]) -> Option<State> {
+        fitting(init_image::init_in(bytes32::fields(block)))
+    }
+
+    fn put(&self, state: State, block: &mut [u8; 32]) {
+        bytes32::put(block, init_image::init_fields(state));
+    }
+}
+
+impl Call for Init {
+    fn begin(&self, wanted: Wanted, block: &mut [u8; 32]) -> Result<Asked, Error> {
+        by_state::begin(self, wanted, block)
+    }
+
+    fn step(&self, block: &mut [u8; 32], answer: u16) -> Asked {
+        by_state::step(self, block, answer)
     }
 }
 
@@ -67,42 +94,13 @@ fn in_range(timing: Timing) -> bool
 }
 
 // A state with another divider is none.
-fn fitting(found: InitFound) -> InitFound
+fn fitting(found: Option<State>) -> Option<State>
     ensures { result ≡ fitting found }
 {
-    match found {
-        InitFound::At(state) => {
-            let timing = state.timing;
-            if in_range(timing) {
-                InitFound::At(state)
-            } else {
-                InitFound::Nothing
-            }
-        }
-        InitFound::Nothing => InitFound::Nothing,
-    }
-}
-
-// The state that a block holds.
-fn held(block: &[u8]) -> InitFound
-    ensures { result ≡ init_held block.now }
-{
-    if block.len() != bytes32::BLOCK_SIZE {
-        return InitFound::Nothing;
-    }
-    fitting(init_image::init_in(bytes32::fields(block)))
-}
-
-pub fn step(block: &mut [u8], answer: u16) -> Need
-    ensures { Does (step_on init_on block.old answer) result block.new }
-{
-    match held(block) {
-        InitFound::Nothing => stepped::refused(Error::InvalidState),
-        InitFound::At(state) => {
-            if need::is_end(init::owed(state)) {
-                return stepped::refused(Error::InvalidState);
-            }
-            stands(block, init::advance(state, answer))
-        }
+    let state = found?;
+    if in_range(state.timing) {
+        Some(state)
+    } else {
+        None
     }
 }

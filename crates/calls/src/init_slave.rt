@@ -1,86 +1,75 @@
 // `init_slave`.
-ghost use Rattle.std.specs.Prelude.{◌≡◌, length};
-ghost use Rattle.block.specs.Bytes32.{block_size};
-ghost use Rattle.calls.specs.OnBlock.{standing, step_on, Does};
-ghost use Rattle.calls.specs.InitSlave.{fitting, init_slave_held, init_slave_on, init_slave_begin};
+ghost use Rattle.std.specs.Prelude.{◌≡◌};
+ghost use Rattle.calls.specs.InitSlave.{fitting, init_slave_call};
+ghost use Rattle.calls.specs.Laws.{init_slave_laws};
 
-use crate::stepped;
-use access::{Error, Need, need};
+use access::{Error, Need};
+use asked::Asked;
 use block::bytes32;
+use call::by_state::{self, States};
+use call::{Call, OnBlock};
 use images::init_slave_image;
-use images::init_slave_image::InitSlaveFound;
 use slave::SlaveConfig;
 use slave::init::{InitStage, InitState};
-use slave_driver::config::Validation;
 use slave_driver::{config, init};
 
-// A state in its block, with what it needs.
-fn stands(block: &mut [u8], state: InitState) -> Need
-    requires { length block.old ≡ block_size }
-    ensures { Does (standing init_slave_on state) result block.new }
-{
-    bytes32::put(block, init_slave_image::init_slave_fields(state));
-    init::owed(state)
+#[derive(Clone, Copy)]
+pub struct InitSlave;
+
+impl OnBlock for InitSlave {
+    type Args = SlaveConfig;
+
+    type State = InitState;
+
+    type Store = [u8; 32];
+
+    ghost on = { λ c. init_slave_call };
+
+    ghost laws = { λ c. init_slave_laws };
 }
 
-pub fn begin(block: &mut [u8], unknown: bool, config: SlaveConfig) -> Need
-    ensures { Does (init_slave_begin unknown config block.old) result block.new }
-{
-    if block.len() != bytes32::BLOCK_SIZE {
-        return stepped::refused(Error::InvalidState);
+impl States for InitSlave {
+    fn first(&self, config: SlaveConfig) -> Result<InitState, Error> {
+        config::validate(config)?;
+        Ok(InitState {
+            config,
+            stage: InitStage::DisableRead,
+            saved: 0,
+        })
     }
-    if unknown {
-        return stepped::refused(Error::InvalidArgument);
+
+    fn owed(&self, state: InitState) -> Need {
+        init::owed(state)
     }
-    match config::validate(config) {
-        Validation::Valid => stands(
-            block,
-            InitState {
-                config,
-                stage: InitStage::DisableRead,
-                saved: 0,
-            },
-        ),
-        Validation::Refused(error) => stepped::refused(error),
+
+    fn advance(&self, state: InitState, answer: u16) -> InitState {
+        init::advance(state, answer)
+    }
+
+    fn found(&self, block: &[u8; 32]) -> Option<InitState> {
+        fitting(init_slave_image::init_slave_in(bytes32::fields(block)))
+    }
+
+    fn put(&self, state: InitState, block: &mut [u8; 32]) {
+        bytes32::put(block, init_slave_image::init_slave_fields(state));
+    }
+}
+
+impl Call for InitSlave {
+    fn begin(&self, config: SlaveConfig, block: &mut [u8; 32]) -> Result<Asked, Error> {
+        by_state::begin(self, config, block)
+    }
+
+    fn step(&self, block: &mut [u8; 32], answer: u16) -> Asked {
+        by_state::step(self, block, answer)
     }
 }
 
 // A state whose configuration begin would refuse is none.
-fn fitting(found: InitSlaveFound) -> InitSlaveFound
+fn fitting(found: Option<InitState>) -> Option<InitState>
     ensures { result ≡ fitting found }
 {
-    match found {
-        InitSlaveFound::At(state) => {
-            let config = state.config;
-            match config::validate(config) {
-                Validation::Valid => InitSlaveFound::At(state),
-                Validation::Refused(_) => InitSlaveFound::Nothing,
-            }
-        }
-        InitSlaveFound::Nothing => InitSlaveFound::Nothing,
-    }
-}
-
-// The state that a block holds.
-fn held(block: &[u8]) -> InitSlaveFound
-    ensures { result ≡ init_slave_held block.now }
-{
-    if block.len() != bytes32::BLOCK_SIZE {
-        return InitSlaveFound::Nothing;
-    }
-    fitting(init_slave_image::init_slave_in(bytes32::fields(block)))
-}
-
-pub fn step(block: &mut [u8], answer: u16) -> Need
-    ensures { Does (step_on init_slave_on block.old answer) result block.new }
-{
-    match held(block) {
-        InitSlaveFound::Nothing => stepped::refused(Error::InvalidState),
-        InitSlaveFound::At(state) => {
-            if need::is_end(init::owed(state)) {
-                return stepped::refused(Error::InvalidState);
-            }
-            stands(block, init::advance(state, answer))
-        }
-    }
+    let state = found?;
+    config::validate(state.config).ok()?;
+    Some(state)
 }

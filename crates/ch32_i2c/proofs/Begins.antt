@@ -18,8 +18,6 @@ use Rattle.operations.specs.Runs.{Span, runs_of, runs_from, run_from, run_at, ru
 use Rattle.operations.proofs.RunLaws as run
 use Rattle.block.specs.Bytes32.{block_size}
 use Rattle.timing.specs.declared.settings.Timing.{Timing}
-use Rattle.timing.specs.declared.settings.Timed.{Timed}
-use Rattle.timing.specs.declared.settings.Timed.TheVariants as timed
 use Rattle.timing.specs.Rust.{timing}
 use Rattle.timing.specs.Machine as init_machine
 use Rattle.master.specs.declared.call.Call.{Call}
@@ -41,7 +39,7 @@ use Rattle.slave.proofs.FitsKept as slaveFits
 use Rattle.images.specs.Numbers.{chip_of}
 use Rattle.images.specs.MasterImage.{frame_options_of}
 use Rattle.registers.specs.declared.chip.Chip.{Chip}
-use Rattle.ch32_i2c.specs.Left.{Left, left}
+use Rattle.call.specs.Left.{Left, left}
 use Rattle.ch32_i2c.specs.Fed.{Entry, Begins}
 use Rattle.ch32_i2c.specs.Fed as fed
 use Rattle.ch32_i2c.specs.Init as cInit
@@ -51,10 +49,12 @@ use Rattle.ch32_i2c.specs.Demands.{init, init_slave, entry_of, takes, timed_refu
 use Rattle.ch32_i2c.proofs.Carried.{filled_end}
 use Rattle.ch32_i2c.proofs.Takes.{transfer_takes, response_takes, transfer_takes_lem, response_takes_lem, init_takes_lem, init_slave_takes_lem}
 use Rattle.ch32_i2c.proofs.InitCarried.{init_image, init_slave_image}
-use Rattle.ch32_i2c.proofs.InitRange.{settled_range}
+use Rattle.timing.proofs.InRange.{settled_range}
 use Rattle.ch32_i2c.proofs.TransferCarried as transfer
 use Rattle.ch32_i2c.proofs.ResponseCarried as response
 use Rattle.ch32_i2c.proofs.CallsRun.{init_begun, slave_begun}
+use Rattle.std.specs.Prelude.{Result, Ok, Err}
+use Rattle.access.specs.declared.ending.Error.{Error}
 
 -- what a call that is over at once, or not, owes first
 abbrev pub Starts : Bool → Need → Type 0
@@ -167,9 +167,9 @@ unfolding initSlaveMachine.owed
 init_slave_starts c = refl
 
 module _ (chip input frequency duty : ℕ) (block : List ℕ) (size : length block ≡ block_size) (known : ltb 3 chip || ltb 1 duty ≡ false) where
-  init_begins_at : (x : Timed) → timing (chip_of chip) input frequency (cInit.duty_of duty) ≡ x → timed_refusal x ≡ none → Begins (entry_of (init chip input frequency duty)) (takes (init chip input frequency duty)) false block []
-  init_begins_at (timed.Refused e) q r = let z : ◌≡◌ {A = ℕ} 0 1 = cc in absurd (omega arith)
-  init_begins_at (timed.At t) q r =
+  init_begins_at : (x : Result Timing Error) → timing (chip_of chip) input frequency (cInit.duty_of duty) ≡ x → timed_refusal x ≡ none → Begins (entry_of (init chip input frequency duty)) (takes (init chip input frequency duty)) false block []
+  init_begins_at (Err e) q r = let z : ◌≡◌ {A = ℕ} 0 1 = cc in absurd (omega arith)
+  init_begins_at (Ok t) q r =
       begins_with (entry_of (init chip input frequency duty)) (takes (init chip input frequency duty)) block [] [] (init_image (init_machine.started (chip_of chip) t)) (init_machine.owed (init_machine.started (chip_of chip) t))
       (init_begun chip input frequency duty block size known t q) (init_takes_lem (init_machine.started (chip_of chip) t) [] (settled_range (chip_of chip) input frequency (cInit.duty_of duty) t q)) false (init_starts (chip_of chip) t)
 

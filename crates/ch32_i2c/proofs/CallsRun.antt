@@ -9,16 +9,13 @@ use native.Mathlib.Omega.{arith}
 use lib.Dec.{eqb, ltb}
 use lib.ListN.{length}
 use borrow.Author.Tests.{eqb-true, eq-eqb, ltb-false, not-false, le-ltb}
-use Rattle.access.specs.declared.ending.Ending.{Ending}
 use Rattle.access.specs.declared.ending.Error.{Error}
 use Rattle.access.specs.declared.ending.Error.TheVariants.{InvalidState, InvalidArgument, InvalidAddress, BufferTooLong, ReservedAddress}
-use Rattle.access.specs.Endings.{failed}
+use Rattle.access.specs.Endings.{Ending, failed}
 use Rattle.access.specs.Record.{Shown, no_more}
 use Rattle.access.specs.Machine.{filled, is_end, shown_from}
 use Rattle.block.specs.Bytes32.{block_size}
 use Rattle.timing.specs.declared.settings.Timing.{Timing}
-use Rattle.timing.specs.declared.settings.Timed.{Timed}
-use Rattle.timing.specs.declared.settings.Timed.TheVariants as timed
 use Rattle.timing.specs.declared.init.Stage as timingStage
 use Rattle.timing.specs.declared.init.Stage.TheVariants as timingStages
 use Rattle.timing.specs.declared.init.State as timingState
@@ -46,10 +43,10 @@ use Rattle.slave.specs.Fits.{is_respond_to_read}
 use Rattle.slave.proofs.FitsKept as slaveFits
 use Rattle.slave_driver.specs.Lent as slaveLent
 use Rattle.images.specs.Numbers.{chip_of}
-use Rattle.calls.specs.OnBlock.{begin_on}
+use Rattle.call.specs.OnBlock.{begin_on}
 use Rattle.calls.specs.Init as initCall
 use Rattle.calls.specs.Response.{response_begin}
-use Rattle.ch32_i2c.specs.Left.{left, refused_with, begin_left}
+use Rattle.call.specs.Left.{left, refused_with, begin_left}
 use Rattle.ch32_i2c.specs.Fed.{Entry, last_from, Makes}
 use Rattle.ch32_i2c.specs.Init as cInit
 use Rattle.ch32_i2c.specs.Transfer.{master_begin}
@@ -58,8 +55,10 @@ use Rattle.ch32_i2c.specs.Demands.{Call, unknown, own_refusal, Accepted, timed_r
 use Rattle.ch32_i2c.proofs.Carried.{Carries, carried, still_open, over, shown_over, unread, carries_unread}
 use Rattle.ch32_i2c.proofs.Recorded.{Recorded, recorded}
 use Rattle.ch32_i2c.proofs.MetEnds.{MetNeed, shown_met}
-use Rattle.ch32_i2c.proofs.InitRange.{settled_range}
-use Rattle.ch32_i2c.proofs.InitCarried.{init_image, init_entry, init_carries, init_slave_image, init_slave_entry, init_slave_carries, InitFit, InitSlaveFit, settings_stay, config_stays}
+use Rattle.timing.proofs.InRange.{settled_range}
+use Rattle.ch32_i2c.proofs.InitCarried.{init_image, init_entry, init_carries, init_slave_image, init_slave_entry, init_slave_carries, InitFit, InitSlaveFit}
+use Rattle.timing.proofs.SettingsStay.{settings_stay}
+use Rattle.slave_driver.proofs.ConfigStays.{config_stays}
 use Rattle.ch32_i2c.proofs.TransferCarried.{transfer_entry, transfer_carries}
 use Rattle.ch32_i2c.proofs.TransferCarried as transfer
 use Rattle.ch32_i2c.proofs.Takes.{transfer_takes, response_takes, init_takes, init_slave_takes, transfer_takes_lem, response_takes_lem, init_takes_lem, init_slave_takes_lem}
@@ -67,6 +66,7 @@ use Rattle.ch32_i2c.proofs.TransferMet.{transfer_met}
 use Rattle.ch32_i2c.proofs.ResponseCarried.{response_entry, response_carries}
 use Rattle.ch32_i2c.proofs.ResponseCarried as response-carried
 use Rattle.ch32_i2c.proofs.ResponseMet.{response_met}
+use Rattle.std.specs.Prelude.{Result, Ok, Err}
 
 -- ---- what an accepted call is
 
@@ -189,9 +189,9 @@ unread_runs chip x reply accepted block size known =
 
 -- ---- init
 
-abbrev pub shown_timed : ℕ → Timed → List ℕ → Shown
-shown_timed chip (timed.At t) answers = shown_from init_machine.init_machine [] (init_machine.started (chip_of chip) t) answers
-shown_timed chip (timed.Refused e) answers = no_more (some (failed e))
+abbrev pub shown_timed : ℕ → Result Timing Error → List ℕ → Shown
+shown_timed chip (Ok t) answers = shown_from init_machine.init_machine [] (init_machine.started (chip_of chip) t) answers
+shown_timed chip (Err e) answers = no_more (some (failed e))
 
 init_stage_met : (st : timingStage.Stage) (s : timingState.State) → MetNeed init_ends (init_machine.owed_at st s)
 init_stage_met timingStages.DisableRead s = tt
@@ -213,14 +213,14 @@ unfolding init_machine.owed
 init_met s = init_stage_met s.stage s
 
 module _ (chip input frequency duty : ℕ) (block : List ℕ) (size : length block ≡ block_size) (known : ltb 3 chip || ltb 1 duty ≡ false) where
-  pub init_begun : (t : Timing) → timing (chip_of chip) input frequency (cInit.duty_of duty) ≡ timed.At t
+  pub init_begun : (t : Timing) → timing (chip_of chip) input frequency (cInit.duty_of duty) ≡ Ok t
       → cInit.init_begin block chip input frequency duty ≡ left (filled [] (init_machine.owed (init_machine.started (chip_of chip) t))) (init_image (init_machine.started (chip_of chip) t)) []
   unfolding cInit.init_begin begin_on
   init_begun t q = rw (eq-eqb (length block) block_size size, known, q)
 
-  init_runs_at : (x : Timed) → timing (chip_of chip) input frequency (cInit.duty_of duty) ≡ x → timed_refusal x ≡ none → Runs init_ends (init_entry chip input frequency duty) init_takes block [] (shown_timed chip x)
-  init_runs_at (timed.Refused e) q r = let z : ◌≡◌ {A = ℕ} 0 1 = cc in absurd (omega arith)
-  init_runs_at (timed.At t) q r =
+  init_runs_at : (x : Result Timing Error) → timing (chip_of chip) input frequency (cInit.duty_of duty) ≡ x → timed_refusal x ≡ none → Runs init_ends (init_entry chip input frequency duty) init_takes block [] (shown_timed chip x)
+  init_runs_at (Err e) q r = let z : ◌≡◌ {A = ℕ} 0 1 = cc in absurd (omega arith)
+  init_runs_at (Ok t) q r =
       let fit = settled_range (chip_of chip) input frequency (cInit.duty_of duty) t q in
       record {
         makes = λ answers. carried (init_carries chip input frequency duty) (init_machine.started (chip_of chip) t) block [] fit refl (init_begun t q) answers;

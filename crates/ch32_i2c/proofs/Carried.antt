@@ -7,18 +7,17 @@ use mathlib.Core.Option.{none, some, Option}
 use Prim.Native.Nat.{ℕ, suc}
 use native.Mathlib.Omega.{arith}
 use lib.ListN.{length, length-set}
-use Rattle.access.specs.declared.ending.Ending.{Ending}
 use Rattle.access.specs.declared.ending.Error.TheVariants.{InvalidState}
 use Rattle.access.specs.declared.need.Need.{Need}
 use Rattle.access.specs.declared.need.Need.TheVariants as need
 use Rattle.access.specs.declared.next.Next.{Next}
 use Rattle.access.specs.declared.next.Next.TheVariants as next
-use Rattle.access.specs.Endings.{failed}
+use Rattle.access.specs.Endings.{Ending, failed}
 use Rattle.access.specs.Record.{Shown}
 use Rattle.access.specs.Machine.{Machine, filled, kept, seen_owed, seen_answered, shown_from, is_end}
-use Rattle.calls.specs.OnBlock.{OnBlock, owed_by, moved_by, refused, step_on, IsRun}
+use Rattle.call.specs.OnBlock.{OnBlock, owed_by, moved_by, refused, step_on, IsRun}
 use Rattle.calls.proofs.KeptLaws.{end_keeps}
-use Rattle.ch32_i2c.specs.Left.{Left, left, refused_with, begin_left, step_left}
+use Rattle.call.specs.Left.{Left, left, refused_with, begin_left, step_left}
 use Rattle.ch32_i2c.specs.Fed.{Entry, lefts_from, last_from, handed_out, nexts_of, in_turn, stored, Still, EndsStill, Makes}
 use Rattle.ch32_i2c.specs.Fed as fed
 

@@ -7,6 +7,7 @@ use mathlib.Core.List.{List}
 use lib.Dec.{eqb, ltb}
 use lib.ListN.{length, get_or}
 use borrow.Author.Tests.{eqb-true, eq-eqb, ne_eqb}
+use Rattle.std.specs.Prelude.{Some, None}
 use Rattle.access.proofs.Choice.{chosen}
 use Rattle.block.specs.Bytes32.{block_size, fields_of}
 use Rattle.block.specs.Fields.{same_fields}
@@ -16,7 +17,6 @@ use Rattle.stage_numbers.specs.MasterStage.{address_stage_number, address_stage_
 use Rattle.access.proofs.Bytes.{bytes}
 use Rattle.access.proofs.Compared.{itself, turned, joined, with_true}
 use Rattle.stage_numbers.proofs.MasterStageRanges.{half_range}
-use Rattle.images.specs.declared.master_image.MasterFound.TheVariants.{At, Nothing}
 use Rattle.access.specs.Endings.{is_ending, is_done}
 use Rattle.images.specs.Numbers.{flag_at}
 use Rattle.images.specs.EndImage.{ending_at}
@@ -79,7 +79,7 @@ in_none g w p n4 n7 n8 = none (is_stage g w p) (in_section (stage_of g w p)) (ou
 
 -- ---- a block
 
-picked : (t : Bool) (s : State) → is_critical_in (cond t (At s) Nothing) ≡ t && is_critical s
+picked : (t : Bool) (s : State) → is_critical_in (cond t (Some s) None) ≡ t && is_critical s
 picked true s = refl
 picked false s = refl
 

@@ -10,11 +10,9 @@ use lib.Dec.{ltb}
 use lib.ListN.{length, take, length-map}
 use lib.Seq.{take_all}
 use borrow.Author.Tests.{ltb-false, le-ltb}
-use Rattle.access.specs.declared.ending.Ending.{Ending}
 use Rattle.access.specs.declared.ending.Error.{Error}
 use Rattle.access.specs.declared.ending.Error.TheVariants.{InvalidState, BufferTooLong}
-use Rattle.access.specs.declared.ending.Ending.TheVariants.{Failed}
-use Rattle.access.specs.Endings.{done, returned, returned_both, failed}
+use Rattle.access.specs.Endings.{Ending, done, returned, returned_both, failed}
 use Rattle.access.specs.Program.{Program, finish}
 use Rattle.access.specs.Record.{Shown, no_more, shown_of, DifferInPayload, Same, SameStruck, EndsAlike, struck}
 use Rattle.access.specs.Machine.{shown_from}
@@ -28,8 +26,6 @@ use Rattle.errors.proofs.CheckLaws.{others_stay, second_forgotten, flags_decide}
 use Rattle.errors.proofs.DepartLaws.{class_is_the_rusts}
 use Rattle.operations.specs.Operations.{operations_of}
 use Rattle.operations.proofs.SumLaws.{written_runs_lem}
-use Rattle.timing.specs.declared.settings.Timed.{Timed}
-use Rattle.timing.specs.declared.settings.Timed.TheVariants as timed
 use Rattle.timing.specs.Rust.{timing}
 use Rattle.timing.proofs.InitAgrees.{init_is_the_rust}
 use Rattle.master.specs.declared.call.Call as master
@@ -55,7 +51,7 @@ use Rattle.slave.proofs.Secret.{slave_is_secret}
 use Rattle.slave_driver.specs.Lent as slaveLent
 use Rattle.images.specs.Numbers.{chip_of, transaction_entry, write_read_entry, write_entry, read_entry}
 use Rattle.images.specs.MasterImage.{frame_options_of}
-use Rattle.ch32_i2c.specs.Left.{Left, refused_with}
+use Rattle.call.specs.Left.{Left, refused_with}
 use Rattle.ch32_i2c.specs.Fed.{lefts, handed_out, stored, Makes, Begins, Seen, seen_of, record_in, StruckSeen, struck_by, as_seen, struck_in, DifferAtPayload, payload_in}
 use Rattle.ch32_i2c.specs.Manual.{Keeps}
 use Rattle.ch32_i2c.specs.Init as cInit
@@ -75,6 +71,8 @@ use Rattle.ch32_i2c.proofs.RunsRecord.{transaction_runs}
 use Rattle.ch32_i2c.proofs.Words.{address_passed, Obey, struck_keeps, transfer_obeys, init_slave_obeys, init_obeys, obeys_free}
 use Rattle.ch32_i2c.proofs.Refuses.{transfer_refuses, response_refuses, init_refuses, init_slave_refuses}
 use Rattle.ch32_i2c.proofs.Stops.{init_stops, master_stops, init_slave_stops, slave_stops}
+use Rattle.std.specs.Prelude.{Result, Ok, Err}
+use Rattle.timing.specs.declared.settings.Timing.{Timing}
 
 -- ---- what the machine of a call shows
 
@@ -130,10 +128,10 @@ runs (respond_to_read chip reply) block bytes e a =
 
 -- ---- it is our text's
 
-timed_ours : (chip input frequency duty : ℕ) (x : Timed) → timing (chip_of chip) input frequency (cInit.duty_of duty) ≡ x → (turns : ℕ) (answers : List ℕ) → length answers < turns
+timed_ours : (chip input frequency duty : ℕ) (x : Result Timing Error) → timing (chip_of chip) input frequency (cInit.duty_of duty) ≡ x → (turns : ℕ) (answers : List ℕ) → length answers < turns
     → shown_timed chip x answers ≡ timed_shown chip turns x answers
-timed_ours chip input frequency duty (timed.At t) q turns answers h = (init_is_the_rust (chip_of chip) input frequency (cInit.duty_of duty) t q).same answers turns h
-timed_ours chip input frequency duty (timed.Refused e) q turns answers h = refl
+timed_ours chip input frequency duty (Ok t) q turns answers h = (init_is_the_rust (chip_of chip) input frequency (cInit.duty_of duty) t q).same answers turns h
+timed_ours chip input frequency duty (Err e) q turns answers h = refl
 
 shown_ours : (c : Call) (room : ℕ) → NoneAdded c room → (turns : ℕ) (answers : List ℕ) → length answers < turns → shown_by c room answers ≡ ours turns c room answers
 shown_ours (init chip input frequency duty) room q turns answers h = timed_ours chip input frequency duty (timing (chip_of chip) input frequency (cInit.duty_of duty)) refl turns answers h
@@ -471,7 +469,7 @@ unfolding refusal ours_with
 ours_join chip address list written room q turns answers =
     let l = lent_with list written room in
     ap (λ (p : Program). shown_of 0 p answers)
-    (transaction_runs (chip_of chip) (masterOurs.ours (chip_of chip)) address l q (runs_join.ours_passes (chip_of chip) address (address_passed address kind.Transaction l q)) turns (λ f. finish (Failed f)) (λ _. finish done))
+    (transaction_runs (chip_of chip) (masterOurs.ours (chip_of chip)) address l q (runs_join.ours_passes (chip_of chip) address (address_passed address kind.Transaction l q)) turns (λ f. finish (Err f)) (λ _. finish done))
 
 rust_joins : (chip address : ℕ) (list written : List ℕ) (room : ℕ) → refusal (call_of chip address kind.Transaction) (lent_with list written room) ≡ none → (turns : ℕ) (answers : List ℕ)
     → rust turns (transaction chip address list written) room answers ≡ runs_shown (the_rust (chip_of chip)) turns chip address (joined (cut (operations_of list) written)) answers
@@ -479,7 +477,7 @@ unfolding refusal rust_with
 rust_joins chip address list written room q turns answers =
     let l = lent_with list written room in
     ap (λ (p : Program). shown_of 0 p answers)
-    (transaction_runs (chip_of chip) (the_rust (chip_of chip)) address l q (runs_join.rust_passes (chip_of chip) address (address_passed address kind.Transaction l q)) turns (λ f. finish (Failed f)) (λ _. finish done))
+    (transaction_runs (chip_of chip) (the_rust (chip_of chip)) address l q (runs_join.rust_passes (chip_of chip) address (address_passed address kind.Transaction l q)) turns (λ f. finish (Err f)) (λ _. finish done))
 
 joins : (chip address : ℕ) (list written block bytes : List ℕ) → Accepted (transaction chip address list written) block bytes → (turns : ℕ) (answers : List ℕ) → length answers < turns
     → Records (transaction chip address list written) block bytes answers (runs_shown (masterOurs.ours (chip_of chip)) turns chip address (joined (cut (operations_of list) written)) answers)

@@ -1,5 +1,6 @@
 -- The demands speak of something: calls that are accepted, and what comes of them, by computation.
 -- Assumes nothing.
+use Rattle.std.specs.Prelude.{Err}
 use mathlib.Core.Path.{◌≡◌, refl, ap, sym, subst, ◌∙◌}
 use mathlib.Core.Bool.{true, false}
 use mathlib.Core.List.{List, [], ◌∷◌, ◌++◌}
@@ -11,13 +12,11 @@ use Rattle.registers.specs.Word.{has_bit, put_bit, field_of, put_field}
 use Rattle.registers.specs.Flags.{error_flags, clear_error}
 use Rattle.registers.specs.Addresses.{address_word}
 use Rattle.access.specs.Program.{check_timeout, late}
-use Rattle.access.specs.declared.ending.Ending.{Ending}
-use Rattle.access.specs.declared.ending.Ending.TheVariants.{Failed}
 use Rattle.access.specs.declared.ending.Error.TheVariants.{Bus, Arbitration, Nack, Overrun, InvalidAddress, ReservedAddress}
 use Rattle.access.specs.declared.next.Next.{Next}
 use Rattle.access.specs.declared.next.Next.TheVariants as next
 use Rattle.access.specs.Numbers.{next_number}
-use Rattle.access.specs.Endings.{flagged, done, returned, returned_both, failed}
+use Rattle.access.specs.Endings.{Ending, flagged, done, returned, returned_both, failed}
 use Rattle.access.specs.Record.{Shown, no_more, Same}
 use Rattle.alike.specs.Like.{forget_end}
 use Rattle.operations.specs.Operations.{operations_of, shaped}
@@ -149,11 +148,11 @@ disturbed_accepted : Accepted disturbed zeros []
 unfolding refusal shaped
 disturbed_accepted = refl
 
-disturbed_ours : (demands.ours 7 disturbed 0 two_flags).end ≡ some (Failed (flagged Arbitration 0x0a00))
+disturbed_ours : (demands.ours 7 disturbed 0 two_flags).end ≡ some (Err (flagged Arbitration 0x0a00))
 unfolding ours_with rust.validate_address rust.write_bytes rust.send_byte rust.wait_flag ours.check_and_clear_error_flags check_errors error_of rust.abort_transfer rust.finish_transfer rust.generate_stop has_bit put_bit field_of put_field error_flags clear_error check_timeout late
 disturbed_ours = refl
 
-disturbed_ends : end_after disturbed zeros [] two_flags ≡ some (Failed (flagged Arbitration 0x0a00))
+disturbed_ends : end_after disturbed zeros [] two_flags ≡ some (Err (flagged Arbitration 0x0a00))
 disturbed_ends = (demand_2.records disturbed zeros [] refl disturbed_accepted 7 two_flags (omega arith)).end_is ∙ disturbed_ours
 
 disturbed_of_the_rust : (demands.rust 7 disturbed 0 two_flags).end ≡ some (failed Arbitration)
@@ -161,11 +160,11 @@ unfolding rust_with rust.validate_address rust.write_bytes rust.send_byte rust.w
 disturbed_of_the_rust = refl
 
 -- the flags fit: 2 with these two, on this chip
-disturbed_fits : can_end disturbed (Failed (flagged Arbitration 0x0a00)) ≡ true
+disturbed_fits : can_end disturbed (Err (flagged Arbitration 0x0a00)) ≡ true
 disturbed_fits = subst (IsMet (can_end disturbed)) disturbed_ends (demand_1.ends disturbed zeros [] refl disturbed_accepted two_flags)
 
 -- in C: bits 48 to 63
-disturbed_number : next_number (next.End (Failed (flagged Arbitration 0x0a00))) ≡ 0x0a00_0000_0000_0200
+disturbed_number : next_number (next.End (Err (flagged Arbitration 0x0a00))) ≡ 0x0a00_0000_0000_0200
 disturbed_number = refl
 
 -- ---- a byte of a write with both chip flags: AF alone, as the Rust; AF with BERR, where the two differ
@@ -188,7 +187,7 @@ nacked_unread = refl
 nacked_is_the_rust : IsTheRust line zeros [] (after_word 0x0400) (demands.rust 7 line 0 (after_word 0x0400))
 nacked_is_the_rust = demand_2.without_berr line zeros [] refl line_accepted 7 (after_word 0x0400) (omega arith) nacked_unread
 
-nacked_ours : (demands.ours 7 line 0 (after_word 0x0400)).end ≡ some (Failed (flagged Nack 0x0400))
+nacked_ours : (demands.ours 7 line 0 (after_word 0x0400)).end ≡ some (Err (flagged Nack 0x0400))
 unfolding ours_with rust.validate_address rust.write_bytes rust.send_byte rust.wait_flag ours.check_and_clear_error_flags check_errors error_of rust.abort_transfer rust.finish_transfer rust.generate_stop has_bit put_bit field_of put_field error_flags clear_error check_timeout late
 nacked_ours = refl
 
@@ -198,18 +197,18 @@ nacked_of_the_rust =
     ∙ ap (forget_end added_forgotten) ((demand_2.records line zeros [] refl line_accepted 7 (after_word 0x0400) (omega arith)).end_is ∙ nacked_ours)
 
 -- a broken line raises both: ours is Bus, and the Rust's Nack
-broken_ours : (demands.ours 7 line 0 (after_word 0x0500)).end ≡ some (Failed (flagged Bus 0x0500))
+broken_ours : (demands.ours 7 line 0 (after_word 0x0500)).end ≡ some (Err (flagged Bus 0x0500))
 unfolding ours_with rust.validate_address rust.write_bytes rust.send_byte rust.wait_flag ours.check_and_clear_error_flags check_errors error_of rust.abort_transfer rust.finish_transfer rust.generate_stop has_bit put_bit field_of put_field error_flags clear_error check_timeout late
 broken_ours = refl
 
-broken_ends : end_after line zeros [] (after_word 0x0500) ≡ some (Failed (flagged Bus 0x0500))
+broken_ends : end_after line zeros [] (after_word 0x0500) ≡ some (Err (flagged Bus 0x0500))
 broken_ends = (demand_2.records line zeros [] refl line_accepted 7 (after_word 0x0500) (omega arith)).end_is ∙ broken_ours
 
 broken_of_the_rust : (demands.rust 7 line 0 (after_word 0x0500)).end ≡ some (failed Nack)
 unfolding rust_with rust.validate_address rust.write_bytes rust.send_byte rust.wait_flag rust.check_and_clear_error_flags rust.abort_transfer rust.finish_transfer rust.generate_stop has_bit put_bit field_of put_field error_flags clear_error check_timeout late
 broken_of_the_rust = refl
 
-broken_departs : check_departs (checks_of line) (some (Failed (flagged Bus 0x0500))) ≡ true
+broken_departs : check_departs (checks_of line) (some (Err (flagged Bus 0x0500))) ≡ true
 unfolding has_bit
 broken_departs = refl
 
@@ -221,7 +220,7 @@ broken_read : BerrUnread 7 line 0 (after_word 0x0500) → ⊥
 unfolding until_with ours_with rust.validate_address rust.write_bytes rust.send_byte rust.wait_flag ours.check_and_clear_error_flags check_errors error_of rust.abort_transfer rust.finish_transfer rust.generate_stop has_bit put_bit field_of put_field error_flags clear_error check_timeout late
 broken_read u = none≢some (ap (λ (s : Shown). s.end) u)
   where
-    none≢some : none ≡ some (Failed (flagged Bus 0x0500)) → ⊥
+    none≢some : ◌≡◌ {A = Option Ending} none (some (Err (flagged Bus 0x0500))) → ⊥
     none≢some e = subst present (sym e) tt
       where
         present : Option Ending → Type 0
@@ -232,7 +231,7 @@ broken_read u = none≢some (ap (λ (s : Shown). s.end) u)
 abbrev heard : Call
 heard = respond_to_write 3
 
-heard_ours : (demands.ours 7 heard 1 (after_word 0x0900)).end ≡ some (Failed (flagged Bus 0x0900))
+heard_ours : (demands.ours 7 heard 1 (after_word 0x0900)).end ≡ some (Err (flagged Bus 0x0900))
 unfolding ours_slave slave.blocking_respond_to_write slave.check_errors_and_time slave.abort_slave_transfer slave.disable_slave_transfers slave.clear_stopf check_errors error_of has_bit put_bit put_field error_flags clear_error check_timeout late
 heard_ours = refl
 

@@ -9,14 +9,14 @@ use native.Mathlib.Omega.{arith}
 use lib.Dec.{leb}
 use lib.ListN.{length}
 use borrow.Author.Tests.{not-true}
+use Rattle.std.specs.Prelude as prelude
 use Rattle.access.specs.declared.ending.Error.{Error}
 use Rattle.access.specs.declared.ending.Error.TheVariants.{InvalidState}
-use Rattle.access.specs.declared.ending.Ending.{Ending}
 use Rattle.access.specs.declared.need.Need.{Need}
 use Rattle.access.specs.declared.need.Need.TheVariants as need
 use Rattle.access.specs.declared.next.Next.{Next}
 use Rattle.access.specs.declared.next.Next.TheVariants as next
-use Rattle.access.specs.Endings.{failed}
+use Rattle.access.specs.Endings.{Ending, failed}
 use Rattle.errors.proofs.MetLaws.{unchecked_met}
 use Rattle.access.specs.Machine.{filled, is_end}
 use Rattle.access.proofs.Choice.{first_true, second_true}
@@ -34,22 +34,14 @@ use Rattle.slave.specs.Fits as slaveFit
 use Rattle.slave.specs.Calls.{SlaveLent, size_of}
 use Rattle.slave.specs.Steps as slaveSteps
 use Rattle.slave.proofs.FitsKept as slaveFits
-use Rattle.images.specs.declared.init_image.InitFound.{InitFound}
-use Rattle.images.specs.declared.init_image.InitFound.TheVariants as initFound
-use Rattle.images.specs.declared.master_image.MasterFound.{MasterFound}
-use Rattle.images.specs.declared.master_image.MasterFound.TheVariants as masterFound
-use Rattle.images.specs.declared.init_slave_image.InitSlaveFound.{InitSlaveFound}
-use Rattle.images.specs.declared.init_slave_image.InitSlaveFound.TheVariants as initSlaveFound
-use Rattle.images.specs.declared.slave_image.SlaveFound.{SlaveFound}
-use Rattle.images.specs.declared.slave_image.SlaveFound.TheVariants as slaveFound
 use Rattle.slave.specs.declared.state.Kind.{Kind}
 use Rattle.images.specs.SlaveImage.{kind_entry}
-use Rattle.calls.specs.OnBlock.{OnBlock, step_on}
+use Rattle.call.specs.OnBlock.{OnBlock, step_on}
 use Rattle.calls.specs.Init as onInit
 use Rattle.calls.specs.Transfer as onTransfer
 use Rattle.calls.specs.InitSlave as onInitSlave
 use Rattle.calls.specs.Response as onResponse
-use Rattle.ch32_i2c.specs.Left.{step_left}
+use Rattle.call.specs.Left.{step_left}
 use Rattle.ch32_i2c.specs.Init as init
 use Rattle.ch32_i2c.specs.Transfer as transfer
 use Rattle.ch32_i2c.specs.InitSlave as init_slave
@@ -60,6 +52,10 @@ use Rattle.ch32_i2c.proofs.MetEnds.{MetNeed}
 use Rattle.ch32_i2c.proofs.TransferMet.{transfer_met}
 use Rattle.ch32_i2c.proofs.ResponseMet.{response_met}
 use Rattle.ch32_i2c.proofs.CallsRun.{init_met, init_slave_met}
+use Rattle.std.specs.Prelude.{Some, None}
+use Rattle.timing.specs.declared.init.State as initState
+use Rattle.slave.specs.declared.init.InitState.{InitState}
+use Rattle.call.specs.CallOn.{state_in}
 
 -- what is handed out is 15
 abbrev pub Is15 : Next → Type 0
@@ -80,20 +76,20 @@ next_is : (c : OnBlock) (bytes b r : List ℕ) (a : ℕ) (s : c.machine.State) �
 unfolding step_on
 next_is c bytes b r a s e t = rw (e, t)
 
-init_goes_at : (f : InitFound) (b : List ℕ) (a : ℕ) → onInit.init_held b ≡ f → takes_init f ≡ true → Is15 (init.init_step b a).next → ⊥
+init_goes_at : (f : prelude.Option initState.State) (b : List ℕ) (a : ℕ) → onInit.init_held b ≡ f → takes_init f ≡ true → Is15 (init.init_step b a).next → ⊥
 unfolding init.init_step
-init_goes_at initFound.Nothing b a e t q = true≢false (sym t)
-init_goes_at (initFound.At s) b a e t q =
-    met_other init_ends refl [] (init_machine.owed (init_machine.advance s a)) (init_met (init_machine.advance s a)) (sym (next_is onInit.init_on [] b [] a s (ap onInit.state_in e) (not-true (is_end (init_machine.owed s)) t)) ∙ q)
+init_goes_at None b a e t q = true≢false (sym t)
+init_goes_at (Some s) b a e t q =
+    met_other init_ends refl [] (init_machine.owed (init_machine.advance s a)) (init_met (init_machine.advance s a)) (sym (next_is onInit.init_on [] b [] a s (ap state_in e) (not-true (is_end (init_machine.owed s)) t)) ∙ q)
 
 pub init_goes : (b : List ℕ) (a : ℕ) → takes_init (onInit.init_held b) ≡ true → Is15 (init.init_step b a).next → ⊥
 init_goes b a t q = init_goes_at (onInit.init_held b) b a refl t q
 
-init_slave_goes_at : (f : InitSlaveFound) (b : List ℕ) (a : ℕ) → onInitSlave.init_slave_held b ≡ f → takes_init_slave f ≡ true → Is15 (init_slave.init_slave_step b a).next → ⊥
+init_slave_goes_at : (f : prelude.Option InitState) (b : List ℕ) (a : ℕ) → onInitSlave.init_slave_held b ≡ f → takes_init_slave f ≡ true → Is15 (init_slave.init_slave_step b a).next → ⊥
 unfolding init_slave.init_slave_step
-init_slave_goes_at initSlaveFound.Nothing b a e t q = true≢false (sym t)
-init_slave_goes_at (initSlaveFound.At s) b a e t q =
-    met_other init_ends refl [] (initSlaveMachine.owed (initSlaveMachine.advance s a)) (init_slave_met (initSlaveMachine.advance s a)) (sym (next_is onInitSlave.init_slave_on [] b [] a s (ap onInitSlave.state_in e) (not-true (is_end (initSlaveMachine.owed s)) t)) ∙ q)
+init_slave_goes_at None b a e t q = true≢false (sym t)
+init_slave_goes_at (Some s) b a e t q =
+    met_other init_ends refl [] (initSlaveMachine.owed (initSlaveMachine.advance s a)) (init_slave_met (initSlaveMachine.advance s a)) (sym (next_is onInitSlave.init_slave_on [] b [] a s (ap state_in e) (not-true (is_end (initSlaveMachine.owed s)) t)) ∙ q)
 
 pub init_slave_goes : (b : List ℕ) (a : ℕ) → takes_init_slave (onInitSlave.init_slave_held b) ≡ true → Is15 (init_slave.init_slave_step b a).next → ⊥
 init_slave_goes b a t q = init_slave_goes_at (onInitSlave.init_slave_held b) b a refl t q
@@ -123,13 +119,13 @@ module _ (entry : ℕ) (b list written r : List ℕ) (a : ℕ) where
   abbrev lent : Lent
   lent = lent_with list written (length r)
 
-  held_open : (s : master.State) → onTransfer.master_held entry b ≡ masterFound.At s → masterSteps.is_open s lent ≡ true → (onTransfer.transfer_on list (length written) (length r) entry).held b ≡ some s
+  held_open : (s : master.State) → onTransfer.master_held entry b ≡ Some s → masterSteps.is_open s lent ≡ true → (onTransfer.transfer_on list (length written) (length r) entry).held b ≡ some s
   held_open s e t = ap (onTransfer.fitting list (length written) (length r)) e ∙ rw (first_true (masterSteps.fits_lent s list (length written) (length r)) (not (is_end (masterSteps.need_of s))) t)
 
-  master_goes_at : (f : MasterFound) → onTransfer.master_held entry b ≡ f → takes_transfer f lent ≡ true → Is15 (transfer.master_step entry b list written r a).next → ⊥
+  master_goes_at : (f : prelude.Option master.State) → onTransfer.master_held entry b ≡ f → takes_transfer f lent ≡ true → Is15 (transfer.master_step entry b list written r a).next → ⊥
   unfolding transfer.master_step owed advance
-  master_goes_at masterFound.Nothing e t q = true≢false (sym t)
-  master_goes_at (masterFound.At s) e t q =
+  master_goes_at None e t q = true≢false (sym t)
+  master_goes_at (Some s) e t q =
       met_other (transfer_ends s.call.chip) (unchecked_met s.call.chip true InvalidState) written (masterSteps.need_of (onTransfer.moved list (length written) (length r) s a)) (moved_met s lent t a)
       (sym (next_is (onTransfer.transfer_on list (length written) (length r) entry) written b r a s (held_open s e t) (not-true (is_end (masterSteps.need_of s)) (second_true (masterSteps.fits_lent s list (length written) (length r)) (not (is_end (masterSteps.need_of s))) t))) ∙ q)
 
@@ -149,10 +145,10 @@ module _ (s : slave.State) (l : SlaveLent) (t : slaveSteps.is_open s (size_of s.
       response_met g (slaveMachine.advance g (slaveSteps.move_of s) a) ((slaveFits.states_fit).kept g (slaveSteps.move_of s) a slave_open_fits)
 
 module _ (x : Kind) (b : List ℕ) (l : SlaveLent) (bytes r : List ℕ) (a : ℕ) where
-  slave_goes_at : (f : SlaveFound) → onResponse.slave_held (kind_entry x) b ≡ f → takes_response f l ≡ true → Is15 (step_left (onResponse.response_on (size_of x l) (kind_entry x)) bytes b r a).next → ⊥
+  slave_goes_at : (f : prelude.Option slave.State) → onResponse.slave_held (kind_entry x) b ≡ f → takes_response f l ≡ true → Is15 (step_left (onResponse.response_on (size_of x l) (kind_entry x)) bytes b r a).next → ⊥
   unfolding slaveMachine.owed slaveMachine.advance
-  slave_goes_at slaveFound.Nothing e t q = true≢false (sym t)
-  slave_goes_at (slaveFound.At s) e t q =
+  slave_goes_at None e t q = true≢false (sym t)
+  slave_goes_at (Some s) e t q =
       let t' : slaveSteps.is_open s (size_of x l) ≡ true = ap (λ (k : Kind). slaveSteps.is_open s (size_of k l)) (sym (slave_kind x b s e)) ∙ t in
       met_other (response_ends s.chip (slaveFit.is_respond_to_read s.kind)) (unchecked_met s.chip false InvalidState) bytes (slaveSteps.need_of (onResponse.moved (size_of x l) s a) (size_of x l))
       (subst (λ (k : Kind). MetNeed (response_ends s.chip (slaveFit.is_respond_to_read s.kind)) (slaveMachine.owed (slaveSteps.setting_in s (size_of k l)) (slaveMachine.advance (slaveSteps.setting_in s (size_of k l)) (slaveSteps.move_of s) a))) (slave_kind x b s e) (slave_moved_met s l t a))

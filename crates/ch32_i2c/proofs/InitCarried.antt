@@ -1,29 +1,28 @@
 -- Begin and step of `init` and of `init_slave` make what their machines show.
 -- Assumes nothing.
 use mathlib.Core.Path.{◌≡◌, refl, ap, sym, ◌∙◌}
-use mathlib.Core.Bool.{Bool, true, false, cond}
+use mathlib.Core.Bool.{true}
 use mathlib.Core.List.{List, []}
 use mathlib.Core.Option.{none}
 use Prim.Native.Nat.{ℕ}
 use lib.ListN.{length}
 use Rattle.block.specs.Bytes32.{bytes_of}
-use Rattle.timing.specs.declared.init.Stage.{Stage}
-use Rattle.timing.specs.declared.init.Stage.TheVariants as stages
 use Rattle.timing.specs.declared.init.State.{State}
 use Rattle.timing.specs.Machine as timing
-use Rattle.slave.specs.declared.init.InitStage.{InitStage}
-use Rattle.slave.specs.declared.init.InitStage.TheVariants as initStage
 use Rattle.slave.specs.declared.init.InitState.{InitState}
 use Rattle.slave.specs.Init as slave
 use Rattle.images.specs.InitImage.{init_fields}
 use Rattle.images.specs.InitSlaveImage.{init_slave_fields}
-use Rattle.calls.specs.OnBlock.{OnBlock, IsRun}
+use Rattle.call.specs.OnBlock.{OnBlock, IsRun}
 use Rattle.calls.specs.Init as initCall
 use Rattle.calls.specs.InitSlave as initSlaveCall
-use Rattle.ch32_i2c.specs.Left.{step_left}
+use Rattle.call.specs.Left.{step_left}
 use Rattle.ch32_i2c.specs.Init as init
 use Rattle.ch32_i2c.specs.InitSlave as init_slave
 use Rattle.ch32_i2c.specs.Fed.{Entry}
+use Rattle.call.specs.CallOn.{state_in}
+use Rattle.timing.proofs.SettingsStay.{settings_stay}
+use Rattle.slave_driver.proofs.ConfigStays.{config_stays}
 use Rattle.ch32_i2c.proofs.HeldLaws.{init_held_lem, init_slave_held_lem}
 use Rattle.ch32_i2c.proofs.Carried.{Carries, carries, nothing_read}
 
@@ -32,29 +31,6 @@ nothing_read_on : (c : OnBlock) (b r : List ℕ) (a : ℕ) → length r ≡ 0 �
 nothing_read_on c b r a z = ap (λ (x : List ℕ). step_left c [] b x a) (sym (nothing_read r z))
 
 -- ---- init
-
-stage_settings : (st : Stage) (s : State) (a : ℕ) → (timing.advance_at st s a).timing ≡ s.timing
-stage_settings stages.DisableRead s a = refl
-stage_settings stages.DisableWrite s a = refl
-stage_settings stages.ResetRead s a = refl
-stage_settings stages.ResetWrite s a = refl
-stage_settings stages.ReleaseRead s a = refl
-stage_settings stages.ReleaseWrite s a = refl
-stage_settings stages.FrequencyRead s a = refl
-stage_settings stages.FrequencyWrite s a = go s.chip.i2c_v3
-  where
-    go : (b : Bool) → (cond b (timing.to stages.RiseWrite s) (timing.to stages.ClockWrite s)).timing ≡ s.timing
-    go true = refl
-    go false = refl
-stage_settings stages.RiseWrite s a = refl
-stage_settings stages.ClockWrite s a = refl
-stage_settings stages.EnableRead s a = refl
-stage_settings stages.EnableWrite s a = refl
-stage_settings stages.Ended s a = refl
-
-pub settings_stay : (s : State) (a : ℕ) → (timing.advance s a).timing ≡ s.timing
-unfolding timing.advance
-settings_stay s a = stage_settings s.stage s a
 
 -- a state whose divider is in range
 abbrev pub InitFit : State → Type 0
@@ -67,28 +43,13 @@ abbrev pub init_entry : ℕ → ℕ → ℕ → ℕ → Entry
 init_entry chip input frequency duty = record { begin = λ b r. init.init_begin b chip input frequency duty; step = λ b r a. init.init_step b a }
 
 init_run : IsRun initCall.init_on timing.init_machine (λ s. s) InitFit
-init_run = record { needs = λ s. refl; moves = λ s a. refl; stays = λ s a g. ap initCall.in_range (settings_stay s a) ∙ g; held = λ s g. ap initCall.state_in (init_held_lem s g) }
+init_run = record { needs = λ s. refl; moves = λ s a. refl; stays = λ s a g. ap initCall.in_range (settings_stay s a) ∙ g; held = λ s g. ap state_in (init_held_lem s g) }
 
 pub init_carries : (chip input frequency duty : ℕ) → Carries timing.init_machine [] 0 (init_entry chip input frequency duty) init_image InitFit
 unfolding init.init_step
 init_carries chip input frequency duty = carries init_run [] (init_entry chip input frequency duty) 0 (nothing_read_on initCall.init_on)
 
 -- ---- init_slave
-
-stage_config : (st : InitStage) (s : InitState) (x : ℕ) → (slave.advance_at st s x).config ≡ s.config
-stage_config initStage.DisableRead s x = refl
-stage_config initStage.DisableWrite s x = refl
-stage_config initStage.BufferRead s x = refl
-stage_config initStage.BufferWrite s x = refl
-stage_config initStage.Own s x = refl
-stage_config initStage.Second s x = refl
-stage_config initStage.EnableRead s x = refl
-stage_config initStage.EnableWrite s x = refl
-stage_config initStage.Ended s x = refl
-
-pub config_stays : (s : InitState) (x : ℕ) → (slave.advance s x).config ≡ s.config
-unfolding slave.advance
-config_stays s x = stage_config s.stage s x
 
 -- a state whose configuration begin would take
 abbrev pub InitSlaveFit : InitState → Type 0
@@ -103,7 +64,7 @@ init_slave_entry ten address has second general stretching =
 
 init_slave_run : IsRun initSlaveCall.init_slave_on slave.init_machine (λ s. s) InitSlaveFit
 init_slave_run =
-    record { needs = λ s. refl; moves = λ s a. refl; stays = λ s a g. ap slave.init_refusal (config_stays s a) ∙ g; held = λ s g. ap initSlaveCall.state_in (init_slave_held_lem s g) }
+    record { needs = λ s. refl; moves = λ s a. refl; stays = λ s a g. ap slave.init_refusal (config_stays s a) ∙ g; held = λ s g. ap state_in (init_slave_held_lem s g) }
 
 pub init_slave_carries : (ten address has second general stretching : ℕ) → Carries slave.init_machine [] 0 (init_slave_entry ten address has second general stretching) init_slave_image InitSlaveFit
 unfolding init_slave.init_slave_step

@@ -1,40 +1,59 @@
--- What begin and step of `init` and `init_slave` leave.
+-- What begin and step of `init` and `init_slave` leave, in the words of the edge that all calls share.
 -- Assumes nothing.
-use mathlib.Core.Path.{◌≡◌}
-use mathlib.Core.Bool.{Bool, ◌||◌}
+use mathlib.Core.Path.{◌≡◌, refl, ap}
+use mathlib.Core.Bool.{◌||◌}
 use mathlib.Core.List.{List, []}
+use mathlib.Core.Option as maybe
 use Prim.Native.Nat.{ℕ}
 use lib.Dec.{ltb}
-use Rattle.registers.specs.declared.chip.Chip.{Chip}
-use Rattle.access.specs.declared.need.Need.{Need}
+use Rattle.std.specs.Prelude.{Result, Ok, Err}
+use Rattle.access.specs.declared.ending.Error.{Error}
 use Rattle.images.specs.Numbers.{chip_of}
-use Rattle.timing.specs.declared.settings.Duty.{Duty}
+use Rattle.timing.specs.declared.settings.Timing.{Timing}
+use Rattle.timing.specs.Rust.{timing}
+use Rattle.timing.specs.Machine.{started}
+use Rattle.slave.specs.Init as slave
+use Rattle.slave.specs.Init.{init_refusal}
 use Rattle.slave.specs.declared.config.SlaveConfig.{SlaveConfig}
-use Rattle.calls.specs.OnBlock.{step_on, Does}
-use Rattle.calls.specs.Init as initCall
-use Rattle.calls.specs.InitSlave as initSlaveCall
-use Rattle.ch32_i2c.specs.Left.{Leaves}
-use Rattle.ch32_i2c.specs.Init.{duty_of, init_begin, init_step}
-use Rattle.ch32_i2c.specs.InitSlave.{config_of, unknown_flags, init_slave_begin, init_slave_step}
-use Rattle.ch32_i2c.proofs.LeavesLaws.{Numbers, begin_leaves, unread_leaves}
+use Rattle.slave_driver.specs.Validated.{answering}
+use Rattle.call.specs.OnBlock.{After, standing, begin_by}
+use Rattle.call.specs.CallOn.{begun_by, first_of}
+use Rattle.call.specs.Edge.{in_block, begin_at}
+use Rattle.call.specs.Left.{begin_left, step_left}
+use Rattle.call.proofs.CallLaws.{begin_as}
+use Rattle.calls.specs.Init.{first_with, init_call, init_held}
+use Rattle.calls.specs.InitSlave.{init_slave_on, init_slave_call, init_slave_held}
+use Rattle.ch32_i2c.specs.Init.{duty_of, wanted_of, init_begin, init_step}
+use Rattle.ch32_i2c.specs.InitSlave.{config_of, unknown_flags, taken_config, init_slave_begin, init_slave_step}
 
-module _ (b : List ℕ) (n : Need) (after : List ℕ) (k : ℕ) where
-  pub init_begun : (chip input frequency duty : ℕ) (u : Bool) (c : Chip) (d : Duty) → u ≡ (ltb 3 chip || ltb 1 duty) → c ≡ chip_of chip → d ≡ duty_of duty → Does (initCall.init_begin u c input frequency d b) n after → Numbers [] k n
-      → Leaves (init_begin b chip input frequency duty) k after []
-  unfolding init_begin
-  init_begun chip input frequency duty u c d eu ec ed does q =
-      begin_leaves [] k after (initCall.init_begin (ltb 3 chip || ltb 1 duty) (chip_of chip) input frequency (duty_of duty) b) [] n (rw (eu, ec, ed) at does) q
+pub init_begin_at : (b : List ℕ) (chip input frequency duty : ℕ) → begin_left [] (begin_at init_call (wanted_of chip input frequency duty) b) [] ≡ init_begin b chip input frequency duty
+unfolding init_begin init_held
+init_begin_at b chip input frequency duty =
+    ap (λ (x : After). begin_left [] x [])
+    (begin_as init_call (ltb 3 chip || ltb 1 duty) (record { input = input; frequency = frequency; duty = duty_of duty; chip = chip_of chip }) b maybe.none (first_with (chip_of chip) (timing (chip_of chip) input frequency (duty_of duty)) b)
+    (go (timing (chip_of chip) input frequency (duty_of duty))))
+  where
+    go : (r : Result Timing Error) → begun_by init_call (first_of (started (chip_of chip)) r) b ≡ first_with (chip_of chip) r b
+    go (Ok t) = refl
+    go (Err e) = refl
 
-  pub init_stepped : (a : ℕ) → Does (step_on initCall.init_on b a) n after → Numbers [] k n → Leaves (init_step b a) k after []
-  unfolding init_step
-  init_stepped a d q = unread_leaves [] k after initCall.init_on b a n d q
+pub init_step_at : (b : List ℕ) (a : ℕ) → step_left (in_block init_call) [] b [] a ≡ init_step b a
+unfolding init_step init_held
+init_step_at b a = refl
 
-  pub init_slave_begun : (ten address has second general stretching : ℕ) (u : Bool) (c : SlaveConfig) → u ≡ unknown_flags ten has general stretching → c ≡ config_of ten address has second general stretching
-      → Does (initSlaveCall.init_slave_begin u c b) n after → Numbers [] k n → Leaves (init_slave_begin b ten address has second general stretching) k after []
-  unfolding init_slave_begin
-  init_slave_begun ten address has second general stretching u c eu ec does q =
-      begin_leaves [] k after (initSlaveCall.init_slave_begin (unknown_flags ten has general stretching) (config_of ten address has second general stretching) b) [] n (rw (eu, ec) at does) q
+pub init_slave_begin_at : (b : List ℕ) (ten address has second general stretching : ℕ) → begin_left [] (begin_at init_slave_call (taken_config ten address has second general stretching) b) [] ≡ init_slave_begin b ten address has second general stretching
+unfolding init_slave_begin init_slave_held
+init_slave_begin_at b ten address has second general stretching =
+    ap (λ (x : After). begin_left [] x [])
+    (begin_as init_slave_call (unknown_flags ten has general stretching) config b (init_refusal config) (standing init_slave_on (slave.started config)) (go (init_refusal config)))
+  where
+    config : SlaveConfig
+    config = config_of ten address has second general stretching
 
-  pub init_slave_stepped : (a : ℕ) → Does (step_on initSlaveCall.init_slave_on b a) n after → Numbers [] k n → Leaves (init_slave_step b a) k after []
-  unfolding init_slave_step
-  init_slave_stepped a d q = unread_leaves [] k after initSlaveCall.init_slave_on b a n d q
+    go : (o : maybe.Option Error) → begun_by init_slave_call (first_of (λ _. slave.started config) (answering o)) b ≡ begin_by o b (standing init_slave_on (slave.started config))
+    go maybe.none = refl
+    go (maybe.some e) = refl
+
+pub init_slave_step_at : (b : List ℕ) (a : ℕ) → step_left (in_block init_slave_call) [] b [] a ≡ init_slave_step b a
+unfolding init_slave_step init_slave_held
+init_slave_step_at b a = refl

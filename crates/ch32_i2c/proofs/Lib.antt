@@ -1,13 +1,12 @@
 pub mod CriticalLaws
-pub mod LeavesLaws
 pub mod TransferLeaves
 pub mod InitLeaves
+pub mod ResponseLeaves
 pub mod Carried
 pub mod Recorded
 pub mod PayloadLaws
 pub mod MetEnds
 pub mod HeldLaws
-pub mod InitRange
 pub mod InitCarried
 pub mod TransferCarried
 pub mod TransferStages

@@ -1,5 +1,6 @@
 -- Ends that are no refusals: 0, with a second number or without, or an error that was met.
 -- Assumes nothing.
+use Rattle.std.specs.Prelude.{Ok, Err}
 use mathlib.Core.Path.{◌≡◌, refl}
 use mathlib.Core.Bool.{Bool, true, false, ◌&&◌, ◌||◌}
 use mathlib.Core.List.{List, [], ◌∷◌}
@@ -7,11 +8,9 @@ use mathlib.Core.Option.{some}
 use Prim.Native.Nat.{ℕ}
 use lib.Dec.{eqb}
 use Rattle.registers.specs.declared.chip.Chip.{Chip}
-use Rattle.access.specs.declared.ending.Ending.{Ending}
-use Rattle.access.specs.declared.ending.Ending.TheVariants.{Done, Failed}
 use Rattle.access.specs.declared.need.Need.{Need}
 use Rattle.access.specs.declared.need.Need.TheVariants as need
-use Rattle.access.specs.Endings.{is_done}
+use Rattle.access.specs.Endings.{Ending, is_done}
 use Rattle.errors.specs.Met.{is_met, has_failed}
 use Rattle.access.proofs.Choice.{first_true, second_true}
 use Rattle.access.specs.Record.{Shown}
@@ -33,8 +32,8 @@ MetNeed can need.Drop = Unit {0}
 MetNeed can (need.End e) = IsMet can (some e)
 
 pub met_or_done : (chip : Chip) (e : Ending) (b : Bool) → has_failed chip true e || (is_done e && b) ≡ true → MetNeed (transfer_ends chip) (need.End e)
-met_or_done chip (Done o) b q = second_true (eqb o.value 0) (eqb o.second 0) (first_true (eqb o.value 0 && eqb o.second 0) b q)
-met_or_done chip (Failed f) b q = only_first (is_met chip true f) q
+met_or_done chip (Ok o) b q = second_true (eqb o.value 0) (eqb o.second 0) (first_true (eqb o.value 0 && eqb o.second 0) b q)
+met_or_done chip (Err f) b q = only_first (is_met chip true f) q
 
 -- every state that fits owes no other end: then no other is shown
 module _ (can : Ending → Bool) (m : Machine) (bytes : List ℕ) (Good : m.State → Type 0) (stays : (s : m.State) (a : ℕ) → Good s → Good (m.move s a)) (met : (s : m.State) → Good s → MetNeed can (m.need s)) where

@@ -1,13 +1,13 @@
 -- Two programs side by side: each answer leads both on, and they end together, with ends that are alike. One program beside itself tells how
 -- it can end.
 -- Assumes nothing.
+use Rattle.access.specs.Endings.{Ending}
 use mathlib.Core.Path.{◌≡◌, subst}
 use mathlib.Core.Bool.{Bool, true, false, cond}
 use mathlib.Core.List.{List, [], ◌∷◌}
 use mathlib.Core.Option.{Option, some}
 use Prim.Native.Nat.{ℕ, zero, suc}
 use native.Mathlib.Omega.{arith}
-use Rattle.access.specs.declared.ending.Ending.{Ending}
 use Rattle.access.specs.Program.{Access, Program, finish, access, cut, spin_from}
 use Rattle.access.specs.Record.{shown_of, EndsAlike, neither, both}
 

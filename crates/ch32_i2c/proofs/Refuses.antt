@@ -13,26 +13,26 @@ use Rattle.access.specs.declared.ending.Error.TheVariants.{InvalidState, Invalid
 use Rattle.block.specs.Bytes32.{block_size}
 use Rattle.images.specs.Numbers.{chip_of}
 use Rattle.images.specs.MasterImage.{kind_entry}
-use Rattle.timing.specs.declared.settings.Timed.{Timed}
-use Rattle.timing.specs.declared.settings.Timed.TheVariants as timed
 use Rattle.timing.specs.Rust.{timing}
 use Rattle.master.specs.declared.call.Call.{Call}
 use Rattle.master.specs.Calls.{Lent, refuse, refusal}
 use Rattle.slave.specs.declared.state.Kind.{Kind}
 use Rattle.slave.specs.Init.{init_refusal, started}
 use Rattle.slave.specs.Calls.{size_refusal}
-use Rattle.calls.specs.OnBlock.{After, refused, standing, begin_by, begin_on}
+use Rattle.call.specs.OnBlock.{After, refused, standing, begin_by, begin_on}
 use Rattle.calls.specs.Init.{first_with}
 use Rattle.calls.specs.Transfer.{transfer_on, first_state}
 use Rattle.calls.specs.InitSlave.{init_slave_on}
 use Rattle.calls.specs.Response.{response_begin, response_on}
 use Rattle.calls.specs.Response as response
 use Rattle.images.specs.SlaveImage as slaveImage
-use Rattle.ch32_i2c.specs.Left.{refused_with, begin_left}
+use Rattle.call.specs.Left.{refused_with, begin_left}
 use Rattle.ch32_i2c.specs.Init.{duty_of, init_begin}
 use Rattle.ch32_i2c.specs.InitSlave.{config_of, unknown_flags, init_slave_begin}
 use Rattle.ch32_i2c.specs.Transfer.{master_begin}
 use Rattle.ch32_i2c.specs.Demands.{timed_refusal}
+use Rattle.std.specs.Prelude.{Result, Ok, Err}
+use Rattle.timing.specs.declared.settings.Timing.{Timing}
 
 -- document 01's first cause: 15, 16, then the call's own
 abbrev pub first_cause : List ℕ → Bool → Option Error → Option Error
@@ -64,9 +64,9 @@ init_refuses chip input frequency duty b e q =
     timed_as (timing (chip_of chip) input frequency (duty_of duty))
     ∙ begin_refuses [] (ltb 3 chip || ltb 1 duty) (timed_refusal (timing (chip_of chip) input frequency (duty_of duty))) b (first_with (chip_of chip) (timing (chip_of chip) input frequency (duty_of duty)) b) [] e q
   where
-    timed_as : (x : Timed) → begin_left [] (begin_on (ltb 3 chip || ltb 1 duty) none b (first_with (chip_of chip) x b)) [] ≡ begin_left [] (begin_on (ltb 3 chip || ltb 1 duty) (timed_refusal x) b (first_with (chip_of chip) x b)) []
-    timed_as (timed.At t) = refl
-    timed_as (timed.Refused x) = refl
+    timed_as : (x : Result Timing Error) → begin_left [] (begin_on (ltb 3 chip || ltb 1 duty) none b (first_with (chip_of chip) x b)) [] ≡ begin_left [] (begin_on (ltb 3 chip || ltb 1 duty) (timed_refusal x) b (first_with (chip_of chip) x b)) []
+    timed_as (Ok t) = refl
+    timed_as (Err x) = refl
 
 pub init_slave_refuses : (ten address has second general stretching : ℕ) (b : List ℕ) (e : Error) → first_cause b (unknown_flags ten has general stretching) (init_refusal (config_of ten address has second general stretching)) ≡ some e
     → init_slave_begin b ten address has second general stretching ≡ refused_with e b []

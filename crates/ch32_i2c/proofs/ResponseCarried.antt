@@ -21,9 +21,9 @@ use Rattle.slave.specs.Steps.{state_at, fits_lent, is_open, need_of}
 use Rattle.slave.proofs.FitsKept.{states_fit}
 use Rattle.slave_driver.specs.Lent.{lent_with}
 use Rattle.images.specs.SlaveImage.{slave_fields, kind_entry}
-use Rattle.calls.specs.OnBlock.{OnBlock, IsRun}
+use Rattle.call.specs.OnBlock.{OnBlock, IsRun}
 use Rattle.calls.specs.Response.{fitting, moved, response_on, response_begin}
-use Rattle.ch32_i2c.specs.Left.{begin_left, step_left}
+use Rattle.call.specs.Left.{begin_left, step_left}
 use Rattle.ch32_i2c.specs.Fed.{Entry}
 use Rattle.ch32_i2c.proofs.HeldLaws.{slave_held_lem}
 use Rattle.ch32_i2c.proofs.Carried.{Carries, carries}

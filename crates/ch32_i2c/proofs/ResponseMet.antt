@@ -1,12 +1,12 @@
 -- A slave call that is accepted ends with 0, a reply alone with a second number, or with an error that was met.
 -- Assumes nothing.
+use Rattle.std.specs.Prelude.{Ok, Err}
+use Rattle.access.specs.Endings.{Ending}
 use mathlib.Core.Path.{◌≡◌, refl}
 use mathlib.Core.Bool.{Bool, true, false, cond, ◌||◌}
 use Prim.Native.Nat.{ℕ}
 use lib.Dec.{eqb, ltb}
 use Rattle.registers.specs.declared.chip.Chip.{Chip}
-use Rattle.access.specs.declared.ending.Ending.{Ending}
-use Rattle.access.specs.declared.ending.Ending.TheVariants.{Done, Failed}
 use Rattle.access.specs.declared.need.Need.TheVariants as need
 use Rattle.errors.specs.Met.{is_met, has_failed}
 use Rattle.access.proofs.Choice.{second_true}
@@ -72,10 +72,10 @@ met_abort can abortStage.StopRead d = tt
 met_abort can abortStage.StopWrite d = tt
 
 met_returned : (chip : Chip) (k : Kind) (size count : ℕ) (e : Ending) → has_failed chip false e || returns_in k size count e ≡ true → MetNeed (response_ends chip (is_respond_to_read k)) (need.End e)
-met_returned chip Listen size count (Done o) q = second_true (ltb o.value 12288) (eqb o.second 0) q
-met_returned chip RespondToWrite size count (Done o) q = second_true (eqb o.value count) (eqb o.second 0) q
-met_returned chip RespondToRead size count (Done o) q = refl
-met_returned chip k size count (Failed f) q = only_first (is_met chip false f) q
+met_returned chip Listen size count (Ok o) q = second_true (ltb o.value 12288) (eqb o.second 0) q
+met_returned chip RespondToWrite size count (Ok o) q = second_true (eqb o.value count) (eqb o.second 0) q
+met_returned chip RespondToRead size count (Ok o) q = refl
+met_returned chip k size count (Err f) q = only_first (is_met chip false f) q
 
 met_receive : (can : Ending → Bool) (b : Bool) (p : ℕ) → MetNeed can (cond b (need.Keep p) need.Drop)
 met_receive can true p = tt

@@ -12,7 +12,6 @@ use borrow.Author.Tests.{ltb-false, le-ltb, lt-ltb, eq-eqb}
 use Rattle.registers.specs.declared.chip.Chip.{Chip}
 use Rattle.access.specs.declared.ending.Error.{Error}
 use Rattle.access.specs.declared.ending.Error.TheVariants.{Overrun, BufferTooLong, InvalidAddress, TooManyOperations, LengthMismatch, InvalidArgument, ReservedAddress}
-use Rattle.access.specs.declared.ending.Ending.TheVariants.{Failed}
 use Rattle.access.specs.declared.ending.Failure.{Failure}
 use Rattle.access.specs.Endings.{failure_of, failed, done}
 use Rattle.access.specs.Program.{Program, finish, call_of}
@@ -26,8 +25,6 @@ use Rattle.operations.specs.Runs.{written_sum, read_sum}
 use Rattle.operations.specs.Search.{fault_from}
 use Rattle.operations.proofs.SumLaws.{each_span, written_runs_lem, read_runs, both_sums}
 use Rattle.timing.specs.declared.settings.Duty.{Duty}
-use Rattle.timing.specs.declared.settings.Timed.{Timed}
-use Rattle.timing.specs.declared.settings.Timed.TheVariants as timed
 use Rattle.timing.specs.Rust.{timing, div_ceil, factor_of, floor_of}
 use Rattle.master.specs.declared.call.Call.{Call}
 use Rattle.master.specs.declared.call.Frame.{Frame}
@@ -39,6 +36,8 @@ use Rattle.slave.specs.declared.config.SlaveConfig.{SlaveConfig}
 use Rattle.slave.specs.Reserved.{config_reserved}
 use Rattle.slave.specs.Init.{config_fault, init_refusal}
 use Rattle.ch32_i2c.specs.Demands.{timed_refusal, the_rusts}
+use Rattle.std.specs.Prelude.{Result, Ok, Err}
+use Rattle.timing.specs.declared.settings.Timing.{Timing}
 
 -- ---- causes one by one
 
@@ -55,7 +54,7 @@ none_left : {P : Type 0} (e : Error) → none ≡ some e → P
 none_left e q = let y : ◌≡◌ {A = ℕ} 0 1 = cc in absurd (omega arith)
 
 abbrev stops : Failure → Program
-stops f = finish (Failed f)
+stops f = finish (Err f)
 
 -- ---- the Rust's checks
 
@@ -175,9 +174,9 @@ master_refused c l n answers e r q = frame_refused c.chip c.address l n answers 
 
 -- ---- the clock settings' causes are added
 
-abbrev Adds : Timed → Type 0
-Adds (timed.At t) = Unit {0}
-Adds (timed.Refused x) = the_rusts x ≡ false
+abbrev Adds : Result Timing Error → Type 0
+Adds (Ok t) = Unit {0}
+Adds (Err x) = the_rusts x ≡ false
 
 timing_adds : (chip : Chip) (input frequency : ℕ) (duty : Duty) → Adds (timing chip input frequency duty)
 unfolding timing
@@ -190,9 +189,9 @@ timing_adds chip input frequency duty =
 pub timing_added : {P : Type 0} (chip : Chip) (input frequency : ℕ) (duty : Duty) (e : Error) → the_rusts e ≡ true → timed_refusal (timing chip input frequency duty) ≡ some e → P
 timing_added {P} chip input frequency duty e r q = go (timing chip input frequency duty) (timing_adds chip input frequency duty) q
   where
-    go : (x : Timed) → Adds x → timed_refusal x ≡ some e → P
-    go (timed.At t) a q = none_left e q
-    go (timed.Refused x) a q = let z : x ≡ e = cc in added x e a r z
+    go : (x : Result Timing Error) → Adds x → timed_refusal x ≡ some e → P
+    go (Ok t) a q = none_left e q
+    go (Err x) a q = let z : x ≡ e = cc in added x e a r z
 
 -- ---- without an added cause
 

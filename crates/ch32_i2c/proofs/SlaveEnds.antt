@@ -10,6 +10,8 @@ use native.Mathlib.Omega.{arith}
 use lib.Dec.{eqb, leb, ltb}
 use lib.ListN.{length}
 use borrow.Author.Tests.{ne_eqb, leb-false}
+use Rattle.std.specs.Prelude.{Some, None, Err}
+use Rattle.std.specs.Prelude as prelude
 use Rattle.registers.specs.declared.chip.Chip.{Chip}
 use Rattle.registers.specs.Bits.{ADDMODE, ADD0, ADDR, STOPF, TXE, AF, MSL, BUSY, GENCALL, DUALF}
 use Rattle.registers.specs.Fields.{ADD7_1, ADD9_8, ADD2}
@@ -17,16 +19,12 @@ use Rattle.registers.specs.Word.{has_bit, field_of}
 use Rattle.registers.proofs.WordLaws.{field_bound}
 use Rattle.registers.specs.Flags.{error_flags}
 use Rattle.access.specs.declared.ending.Failure.{Failure}
-use Rattle.access.specs.declared.ending.Ending.{Ending}
-use Rattle.access.specs.declared.ending.Ending.TheVariants.{Failed}
 use Rattle.access.specs.declared.ending.Error.TheVariants.{Timeout}
 use Rattle.access.specs.declared.next.Next.TheVariants as next
-use Rattle.access.specs.Endings.{failure_of, returned, returned_both}
+use Rattle.access.specs.Endings.{Ending, failure_of, returned, returned_both}
 use Rattle.access.specs.Numbers.{next_number}
 use Rattle.access.specs.Program.{Program, finish, check_timeout, late}
 use Rattle.access.specs.Record.{EndsAlike, neither, both}
-use Rattle.errors.specs.declared.Checked.{Checked}
-use Rattle.errors.specs.declared.Checked.TheVariants as checked
 use Rattle.errors.specs.Classes.{error_of, decided}
 use Rattle.errors.specs.Check.{check_errors}
 use Rattle.slave.specs.declared.config.SlaveAddress.{SlaveAddress}
@@ -44,22 +42,22 @@ use Rattle.ch32_i2c.proofs.Paired.{Paired, finishes, accesses, paired_ends, eith
 
 -- ---- errors and the abort
 
-module _ (Alike : Ending → Ending → Type 0) (failures : (f : Failure) → Alike (Failed f) (Failed f)) (chip : Chip) (turns : ℕ) where
+module _ (Alike : Ending → Ending → Type 0) (failures : (f : Failure) → Alike (Err f) (Err f)) (chip : Chip) (turns : ℕ) where
   abbrev Pair : Program → Program → Type 0
   Pair = Paired Alike
 
   abbrev fails : Failure → Program
-  fails f = finish (Failed f)
+  fails f = finish (Err f)
 
   aborted : (f : Failure) → Pair (rust.abort_slave_transfer turns fails (λ _. fails f)) (rust.abort_slave_transfer turns fails (λ _. fails f))
   unfolding rust.abort_slave_transfer rust.disable_slave_transfers
   aborted f =
       accesses (λ a. accesses (λ b. accesses (λ star2. either Alike (has_bit BUSY star2 && not (has_bit MSL star2)) (accesses (λ c. accesses (λ d. finishes (failures f)))) (finishes (failures f)))))
 
-  judged : (c : Checked) {p q : Program} → Pair p q
+  judged : (c : prelude.Option Failure) {p q : Program} → Pair p q
       → Pair (decided c (λ f. rust.abort_slave_transfer turns fails (λ _. fails f)) p) (decided c (λ f. rust.abort_slave_transfer turns fails (λ _. fails f)) q)
-  judged (checked.Failed f) r = aborted f
-  judged checked.Fine r = r
+  judged (Some f) r = aborted f
+  judged None r = r
 
   checks : (star1 : ℕ) {p q : Program} → Pair p q
       → Pair (ours.check_errors_and_time chip star1 turns fails (λ _. p)) (ours.check_errors_and_time chip star1 turns fails (λ _. q))
@@ -122,7 +120,7 @@ module _ (chip : Chip) (turns : ℕ) where
   Listened e f = Commanded e
 
   abbrev failing : Failure → Program
-  failing f = finish (Failed f)
+  failing f = finish (Err f)
 
   stale : {p q : Program} → Paired Listened p q → Paired Listened (rust.clear_slave_stale_flags turns failing (λ _. p)) (rust.clear_slave_stale_flags turns failing (λ _. q))
   unfolding rust.clear_slave_stale_flags rust.clear_stopf

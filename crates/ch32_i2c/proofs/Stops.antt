@@ -9,25 +9,18 @@ use lib.ListN.{length}
 use borrow.Author.Tests.{not-false}
 use Rattle.access.specs.declared.ending.Error.TheVariants.{InvalidState}
 use Rattle.access.specs.Machine.{is_end}
+use Rattle.master.specs.declared.state.State.{State}
 use Rattle.master.specs.Calls.{lent_with}
 use Rattle.master.specs.Steps as masterSteps
 use Rattle.slave.specs.declared.state.State as slave
 use Rattle.slave.specs.Steps as slaveSteps
-use Rattle.images.specs.declared.init_image.InitFound.{InitFound}
-use Rattle.images.specs.declared.init_image.InitFound.TheVariants as initFound
-use Rattle.images.specs.declared.master_image.MasterFound.{MasterFound}
-use Rattle.images.specs.declared.master_image.MasterFound.TheVariants as masterFound
-use Rattle.images.specs.declared.init_slave_image.InitSlaveFound.{InitSlaveFound}
-use Rattle.images.specs.declared.init_slave_image.InitSlaveFound.TheVariants as initSlaveFound
-use Rattle.images.specs.declared.slave_image.SlaveFound.{SlaveFound}
-use Rattle.images.specs.declared.slave_image.SlaveFound.TheVariants as slaveFound
-use Rattle.calls.specs.OnBlock.{OnBlock, owed_by, owed_in, takes, step_on}
+use Rattle.call.specs.OnBlock.{OnBlock, owed_by, owed_in, takes, step_on}
 use Rattle.calls.specs.Init as init
 use Rattle.calls.specs.Transfer as transfer
 use Rattle.calls.specs.InitSlave as init_slave
 use Rattle.calls.specs.Response as response
 use Rattle.calls.proofs.KeptLaws.{end_keeps}
-use Rattle.ch32_i2c.specs.Left.{refused_with, step_left}
+use Rattle.call.specs.Left.{refused_with, step_left}
 use Rattle.slave.specs.declared.state.Kind.{Kind}
 use Rattle.slave.specs.Calls.{SlaveLent, size_of}
 use Rattle.images.specs.SlaveImage.{kind_entry}
@@ -36,6 +29,11 @@ use Rattle.ch32_i2c.specs.Transfer.{master_step}
 use Rattle.ch32_i2c.specs.InitSlave.{init_slave_step}
 use Rattle.ch32_i2c.proofs.HeldLaws.{slave_kind}
 use Rattle.ch32_i2c.specs.Demands.{takes_init, takes_transfer, takes_init_slave, takes_response}
+use Rattle.std.specs.Prelude as found
+use Rattle.std.specs.Prelude.{Some, None, Option}
+use Rattle.timing.specs.declared.init.State as initState
+use Rattle.slave.specs.declared.init.InitState.{InitState}
+use Rattle.call.specs.CallOn.{state_in}
 
 -- ---- a call on a block takes a step by its own test
 
@@ -45,23 +43,23 @@ stops c bytes b r a q = rw q (ap (λ (x : List ℕ). refused_with InvalidState b
 
 -- ---- and that test is the demands'
 
-pub init_takes_lem : (f : InitFound) → takes_init f ≡ not (is_end (owed_by init.init_on (init.state_in f)))
-init_takes_lem (initFound.At s) = refl
-init_takes_lem initFound.Nothing = refl
+pub init_takes_lem : (f : found.Option initState.State) → takes_init f ≡ not (is_end (owed_by init.init_on (state_in f)))
+init_takes_lem (Some s) = refl
+init_takes_lem None = refl
 
-pub init_slave_takes_lem : (f : InitSlaveFound) → takes_init_slave f ≡ not (is_end (owed_by init_slave.init_slave_on (init_slave.state_in f)))
-init_slave_takes_lem (initSlaveFound.At s) = refl
-init_slave_takes_lem initSlaveFound.Nothing = refl
+pub init_slave_takes_lem : (f : found.Option InitState) → takes_init_slave f ≡ not (is_end (owed_by init_slave.init_slave_on (state_in f)))
+init_slave_takes_lem (Some s) = refl
+init_slave_takes_lem None = refl
 
-pub transfer_takes_lem : (entry : ℕ) (list written : List ℕ) (room : ℕ) (f : MasterFound) → takes_transfer f (lent_with list written room) ≡ not (is_end (owed_by (transfer.transfer_on list (length written) room entry) (transfer.fitting list (length written) room f)))
-transfer_takes_lem entry list written room masterFound.Nothing = refl
-transfer_takes_lem entry list written room (masterFound.At s) = go (masterSteps.fits_lent s list (length written) room)
+pub transfer_takes_lem : (entry : ℕ) (list written : List ℕ) (room : ℕ) (f : Option State) → takes_transfer f (lent_with list written room) ≡ not (is_end (owed_by (transfer.transfer_on list (length written) room entry) (transfer.fitting list (length written) room f)))
+transfer_takes_lem entry list written room None = refl
+transfer_takes_lem entry list written room (Some s) = go (masterSteps.fits_lent s list (length written) room)
   where
     go : (v : Bool) → v && not (is_end (masterSteps.need_of s)) ≡ not (is_end (owed_by (transfer.transfer_on list (length written) room entry) (cond v (some s) none)))
     go true = refl
     go false = refl
 
-pub response_takes_lem : (entry size : ℕ) (s : slave.State) → slaveSteps.is_open s size ≡ not (is_end (owed_by (response.response_on size entry) (response.fitting size (slaveFound.At s))))
+pub response_takes_lem : (entry size : ℕ) (s : slave.State) → slaveSteps.is_open s size ≡ not (is_end (owed_by (response.response_on size entry) (response.fitting size (Some s))))
 response_takes_lem entry size s = go (slaveSteps.fits_lent s size)
   where
     go : (v : Bool) → v && not (is_end (slaveSteps.need_of s size)) ≡ not (is_end (owed_by (response.response_on size entry) (cond v (some s) none)))
@@ -87,9 +85,9 @@ module _ (x : Kind) (b : List ℕ) (l : SlaveLent) where
   takes_is : takes_response (response.slave_held (kind_entry x) b) l ≡ takes (response.response_on (size_of x l) (kind_entry x)) b
   takes_is = go (response.slave_held (kind_entry x) b) refl
     where
-      go : (f : SlaveFound) → response.slave_held (kind_entry x) b ≡ f → takes_response f l ≡ not (is_end (owed_by (response.response_on (size_of x l) (kind_entry x)) (response.fitting (size_of x l) f)))
-      go slaveFound.Nothing e = refl
-      go (slaveFound.At s) e = ap (λ (k : Kind). slaveSteps.is_open s (size_of k l)) (slave_kind x b s e) ∙ response_takes_lem (kind_entry x) (size_of x l) s
+      go : (f : Option slave.State) → response.slave_held (kind_entry x) b ≡ f → takes_response f l ≡ not (is_end (owed_by (response.response_on (size_of x l) (kind_entry x)) (response.fitting (size_of x l) f)))
+      go None e = refl
+      go (Some s) e = ap (λ (k : Kind). slaveSteps.is_open s (size_of k l)) (slave_kind x b s e) ∙ response_takes_lem (kind_entry x) (size_of x l) s
 
   pub slave_stops : (bytes r : List ℕ) (a : ℕ) → takes_response (response.slave_held (kind_entry x) b) l ≡ false → step_left (response.response_on (size_of x l) (kind_entry x)) bytes b r a ≡ refused_with InvalidState b r
   slave_stops bytes r a q = stops (response.response_on (size_of x l) (kind_entry x)) bytes b r a (sym takes_is ∙ q)

@@ -6,15 +6,18 @@ use mathlib.Core.List.{List}
 use mathlib.Core.Option.{none}
 use Prim.Native.Nat.{ℕ}
 use lib.ListN.{length}
+use Rattle.std.specs.Prelude.{Option, Some}
 use Rattle.registers.specs.declared.chip.Chip.{Chip}
 use Rattle.access.specs.Machine.{is_end}
 use Rattle.timing.specs.declared.init.State as timingState
 use Rattle.timing.specs.Machine as init_machine
+use Rattle.master.specs.declared.state.State.{State}
 use Rattle.master.specs.declared.call.Call.{Call}
 use Rattle.master.specs.declared.state.Move.{Move}
 use Rattle.master.specs.Machine.{owed}
 use Rattle.master.specs.Calls.{Lent, lent_with, refusal, shape_of}
 use Rattle.master.specs.Steps.{state_at}
+use Rattle.slave.specs.declared.state.State as slaveState
 use Rattle.slave.specs.declared.init.InitState.{InitState}
 use Rattle.slave.specs.declared.state.Kind as slave
 use Rattle.slave.specs.Init as initSlaveMachine
@@ -23,10 +26,6 @@ use Rattle.slave.specs.Calls.{SlaveLent}
 use Rattle.slave.specs.Calls as slaveCalls
 use Rattle.slave.specs.Steps as slaveSteps
 use Rattle.slave_driver.specs.Lent as slaveLent
-use Rattle.images.specs.declared.master_image.MasterFound.{MasterFound}
-use Rattle.images.specs.declared.master_image.MasterFound.TheVariants as masterFound
-use Rattle.images.specs.declared.slave_image.SlaveFound.{SlaveFound}
-use Rattle.images.specs.declared.slave_image.SlaveFound.TheVariants as slaveFound
 use Rattle.images.specs.MasterImage.{kind_entry}
 use Rattle.images.specs.SlaveImage as slaveImage
 use Rattle.calls.specs.Init.{init_held}
@@ -54,15 +53,15 @@ init_slave_takes block bytes = takes_init_slave (init_slave_held block)
 
 pub transfer_takes_lem : (c : Call) (l : Lent) → refusal c l ≡ none → (m : Move) (r : List ℕ) → transfer.Fit c l m → length r ≡ l.room → transfer_takes c l (transfer.image_of c l m) r ≡ not (is_end (owed (shape_of c l) m))
 transfer_takes_lem c l accepted m r g e =
-    ap (λ (f : MasterFound). takes_transfer f (lent_with l.list l.written (length r))) (master_held_lem (state_at c m))
-    ∙ ap (λ (n : ℕ). takes_transfer (masterFound.At (state_at c m)) (lent_with l.list l.written n)) e
+    ap (λ (f : Option State). takes_transfer f (lent_with l.list l.written (length r))) (master_held_lem (state_at c m))
+    ∙ ap (λ (n : ℕ). takes_transfer (Some (state_at c m)) (lent_with l.list l.written n)) e
     ∙ transfer.open_at c l accepted m g (is_end (owed (shape_of c l) m)) refl
 
 pub response_takes_lem : (chip : Chip) (x : slave.Kind) (l : SlaveLent) → slaveCalls.Accepted x l → (m : (slaveMachine.slave (slaveCalls.setting_of chip x l)).State) (r : List ℕ) → response.Fit chip x l m → length r ≡ l.room
     → response_takes x l (response.image_of chip x l m) r ≡ not (is_end (slaveMachine.owed (slaveCalls.setting_of chip x l) m))
 response_takes_lem chip x l accepted m r g e =
-    ap (λ (f : SlaveFound). takes_response f (slaveLent.lent_with l.reply (length r))) (slave_held_lem (slaveSteps.state_at (slaveCalls.setting_of chip x l) m))
-    ∙ ap (λ (n : ℕ). takes_response (slaveFound.At (slaveSteps.state_at (slaveCalls.setting_of chip x l) m)) (slaveLent.lent_with l.reply n)) e
+    ap (λ (f : Option slaveState.State). takes_response f (slaveLent.lent_with l.reply (length r))) (slave_held_lem (slaveSteps.state_at (slaveCalls.setting_of chip x l) m))
+    ∙ ap (λ (n : ℕ). takes_response (Some (slaveSteps.state_at (slaveCalls.setting_of chip x l) m)) (slaveLent.lent_with l.reply n)) e
     ∙ response.open_at chip x l accepted m g (is_end (slaveMachine.owed (slaveCalls.setting_of chip x l) m)) refl
 
 pub init_takes_lem : (s : timingState.State) (r : List ℕ) → InitFit s → init_takes (init_image s) r ≡ not (is_end (init_machine.owed s))

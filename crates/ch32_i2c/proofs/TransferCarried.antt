@@ -17,9 +17,9 @@ use Rattle.master.specs.Calls.{Lent, lent_with, shape_of, refusal, Accepted}
 use Rattle.master.specs.Steps.{state_at, is_none, fits_lent, is_open, need_of}
 use Rattle.master.proofs.AcceptedFits.{states_fit}
 use Rattle.images.specs.MasterImage.{master_fields, kind_entry}
-use Rattle.calls.specs.OnBlock.{OnBlock, IsRun}
+use Rattle.call.specs.OnBlock.{OnBlock, IsRun}
 use Rattle.calls.specs.Transfer.{fitting, moved, transfer_on}
-use Rattle.ch32_i2c.specs.Left.{step_left}
+use Rattle.call.specs.Left.{step_left}
 use Rattle.ch32_i2c.specs.Transfer.{master_step, master_begin}
 use Rattle.ch32_i2c.specs.Fed.{Entry}
 use Rattle.ch32_i2c.proofs.HeldLaws.{master_held_lem}

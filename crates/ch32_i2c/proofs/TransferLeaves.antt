@@ -1,48 +1,100 @@
--- What begin and step of a transfer leave.
+-- What begin and step of a transfer leave, in the words of the edge that all calls share.
 -- Assumes nothing.
-use mathlib.Core.Path.{◌≡◌, ap, subst, ◌∙◌}
-use mathlib.Core.Bool.{Bool, cond}
+use mathlib.Core.Path.{◌≡◌, refl, ap, subst, ◌∙◌}
+use mathlib.Core.Bool.{Bool, true, false, cond, ◌||◌}
 use mathlib.Core.List.{List, []}
+use mathlib.Core.Option as maybe
 use Prim.Native.Nat.{ℕ}
-use lib.ListN.{length, set}
-use Rattle.registers.specs.Word.{field_of}
-use Rattle.registers.specs.Fields.{DATA}
-use Rattle.access.specs.declared.need.Need.{Need}
-use Rattle.images.specs.MasterImage.{frame_options_of}
+use lib.Dec.{eqb, ltb}
+use lib.ListN.{length}
+use Rattle.std.specs.Prelude.{Option, None}
+use Rattle.access.specs.declared.ending.Error.{Error}
+use Rattle.block.specs.Bytes32.{block_size}
+use Rattle.images.specs.Numbers.{transaction_entry, write_read_entry, write_entry, read_entry}
+use Rattle.images.specs.MasterImage.{kind_entry}
 use Rattle.master.specs.declared.call.Call.{Call}
-use Rattle.master.specs.declared.call.FrameOptions.{FrameOptions}
 use Rattle.master.specs.declared.call.Kind.TheVariants as kind
-use Rattle.master.specs.Calls.{Lent}
-use Rattle.calls.specs.declared.stepped.Stepped.{Stepped}
-use Rattle.calls.specs.OnBlock.{step_on, Does}
-use Rattle.calls.specs.Kept.{DoesKeeping}
-use Rattle.calls.specs.Transfer.{transfer_on, transfer_begin}
-use Rattle.ch32_i2c.specs.Left.{Leaves}
-use Rattle.ch32_i2c.specs.Transfer.{call_of, master_begin, master_step}
-use Rattle.ch32_i2c.proofs.LeavesLaws.{Numbers, begin_leaves, step_leaves, unread_leaves}
+use Rattle.master.specs.Calls.{lent_with, refusal_by}
+use Rattle.master_call.specs.CallStep.{held_in, fitting_in}
+use Rattle.call.specs.OnBlock.{After, standing, begin_by}
+use Rattle.call.specs.CallOn.{state_in, begun_by, first_unless}
+use Rattle.call.specs.Edge.{in_block, begin_at, known}
+use Rattle.call.specs.Left.{begin_left, step_left, Leaves, LeavesBlock}
+use Rattle.call.proofs.CallLaws.{begin_as, step_as}
+use Rattle.calls.specs.declared.transfer.Partner.{Partner}
+use Rattle.calls.specs.declared.transfer.Framed.{Framed}
+use Rattle.calls.specs.Transfer.{master_held, fitting, first_state, transfer_on, transfer_begin, transfer_call, called, framed, transaction_call, write_read_call, write_call, read_call}
+use Rattle.calls.proofs.TransferLaws.{same_fitting}
+use Rattle.ch32_i2c.specs.Transfer as entry
+use Rattle.ch32_i2c.specs.Transfer.{partner_of, framed_of, master_begin, master_step}
 
-module _ (unknown : Bool) (c : Call) (b : List ℕ) (l : Lent) (r : List ℕ) (k : ℕ) where
-  pub begun : (n : Need) (after : List ℕ) → Does (transfer_begin l.list (length l.written) l.room unknown c b) n after → Numbers l.written k n → Leaves (master_begin unknown c b l r) k after r
+module _ {Args : Type 0} (call_of : Args → Call) (list : List ℕ) (written room n : ℕ) where
+  begin_at_is : (unknown : Bool) (x : Args) (b : List ℕ) → begin_at (transfer_call list written room n call_of) (known unknown x) b ≡ transfer_begin list written room unknown (call_of x) b
+  begin_at_is unknown x b =
+      begin_as (transfer_call list written room n call_of) unknown x b (refusal_by (call_of x).kind (call_of x).address list written room)
+      (standing (transfer_on list written room (kind_entry (call_of x).kind)) (first_state list written room (call_of x))) (go (refusal_by (call_of x).kind (call_of x).address list written room))
+    where
+      go : (o : maybe.Option Error) → begun_by (transfer_call list written room n call_of) (first_unless o (first_state list written room (call_of x))) b
+          ≡ begin_by o b (standing (transfer_on list written room (kind_entry (call_of x).kind)) (first_state list written room (call_of x)))
+      go maybe.none = refl
+      go (maybe.some e) = refl
+
+  held_is : (b : List ℕ) → (in_block (transfer_call list written room n call_of)).held b ≡ fitting list written room (master_held n b)
+  unfolding master_held held_in
+  held_is b = go (eqb (length b) block_size)
+    where
+      go : (t : Bool) → state_in (cond t (fitting_in list written room (held_in n b)) None) ≡ fitting list written room (cond t (held_in n b) None)
+      go true = same_fitting list written room (held_in n b)
+      go false = refl
+
+  step_is : (bytes b r : List ℕ) (a : ℕ) → step_left (in_block (transfer_call list written room n call_of)) bytes b r a ≡ step_left (transfer_on list written room n) bytes b r a
+  step_is bytes b r a = step_as (transfer_call list written room n call_of) (λ b. fitting list written room (master_held n b)) bytes b r a (held_is b)
+
+module _ {Args : Type 0} (call_of : Args → Call) (list written : List ℕ) (room n : ℕ) (unknown : Bool) (x : Args) (o : Option Args) (q : o ≡ known unknown x) (b : List ℕ) (k : ℕ) (after : List ℕ)
+    (l : LeavesBlock (begin_left written (begin_at (transfer_call list (length written) room n call_of) o b) []) k after) where
+  begun : (r : List ℕ) → Leaves (master_begin unknown (call_of x) b (lent_with list written room) r) k after r
   unfolding master_begin
-  begun n after d q = begin_leaves l.written k after (transfer_begin l.list (length l.written) l.room unknown c b) r n d q
+  begun r =
+      let h = subst (λ (y : After). LeavesBlock (begin_left written y []) k after) (ap (λ (u : Option Args). begin_at (transfer_call list (length written) room n call_of) u b) q ∙ begin_at_is call_of list (length written) room n unknown x b) l in
+      record { number = h.number; words = h.words; block = h.block; read = refl }
 
-module _ (entry : ℕ) (b list written : List ℕ) (a k : ℕ) (after : List ℕ) where
-  pub stepped : (r r' : List ℕ) (s : Stepped) → DoesKeeping (transfer_on list (length written) (length r) entry) b a s after → Numbers written k s.need
-      → r' ≡ cond s.keeps (set r s.place (field_of DATA a)) r → Leaves (master_step entry b list written r a) k after r'
-  unfolding master_step
-  stepped r r' s d q e = step_leaves written k after (transfer_on list (length written) (length r) entry) b a r r' s d q e
+-- ---- begin, entry by entry
 
-  pub unread : (n : Need) → Does (step_on (transfer_on list (length written) 0 entry) b a) n after → Numbers written k n → Leaves (master_step entry b list written [] a) k after []
-  unfolding master_step
-  unread n d q = unread_leaves written k after (transfer_on list (length written) 0 entry) b a n d q
+pub transaction_begun : (chip address : ℕ) (list written r b : List ℕ) (o : Option Partner) (k : ℕ) (after : List ℕ) → o ≡ known (ltb 3 chip) (partner_of chip address)
+    → LeavesBlock (begin_left written (begin_at (transaction_call list (length written) (length r)) o b) []) k after → Leaves (entry.transaction_begin b chip address list written r) k after r
+transaction_begun chip address list written r b o k after q l =
+    begun (λ p. called p kind.Transaction) list written (length r) transaction_entry (ltb 3 chip) (partner_of chip address) o q b k after l r
 
--- ---- the call that C's numbers mean
+pub write_read_begun : (chip address : ℕ) (written r b : List ℕ) (o : Option Partner) (k : ℕ) (after : List ℕ) → o ≡ known (ltb 3 chip) (partner_of chip address)
+    → LeavesBlock (begin_left written (begin_at (write_read_call (length written) (length r)) o b) []) k after → Leaves (entry.write_read_begin b chip address written r) k after r
+write_read_begun chip address written r b o k after q l =
+    begun (λ p. called p kind.WriteRead) [] written (length r) write_read_entry (ltb 3 chip) (partner_of chip address) o q b k after l r
 
-pub called : (unknown : Bool) (c k : Call) (b : List ℕ) (l : Lent) (r : List ℕ) (n : ℕ) (b' r' : List ℕ) → k ≡ c → Leaves (master_begin unknown k b l r) n b' r' → Leaves (master_begin unknown c b l r) n b' r'
-called unknown c k b l r n b' r' e h = subst (λ (k : Call). Leaves (master_begin unknown k b l r) n b' r') e h
+pub write_begun : (chip address option : ℕ) (written b : List ℕ) (o : Option Framed) (k : ℕ) (after : List ℕ) → o ≡ known (ltb 3 chip || ltb 5 option) (framed_of chip address option)
+    → LeavesBlock (begin_left written (begin_at (write_call (length written)) o b) []) k after → LeavesBlock (entry.write_begin b chip address option written) k after
+write_begun chip address option written b o k after q l =
+    let h = begun (framed (λ o. kind.Write o)) [] written 0 write_entry (ltb 3 chip || ltb 5 option) (framed_of chip address option) o q b k after l [] in
+    record { number = h.number; words = h.words; block = h.block }
 
-pub write_call : (chip address option : ℕ) (o : FrameOptions) (k : Call) → k ≡ call_of chip address (kind.Write o) → o ≡ frame_options_of option → k ≡ call_of chip address (kind.Write (frame_options_of option))
-write_call chip address option o k e q = e ∙ ap (λ (o : FrameOptions). call_of chip address (kind.Write o)) q
+pub read_begun : (chip address option : ℕ) (r b : List ℕ) (o : Option Framed) (k : ℕ) (after : List ℕ) → o ≡ known (ltb 3 chip || ltb 5 option) (framed_of chip address option)
+    → LeavesBlock (begin_left [] (begin_at (read_call (length r)) o b) []) k after → Leaves (entry.read_begin b chip address option r) k after r
+read_begun chip address option r b o k after q l =
+    begun (framed (λ o. kind.Read o)) [] [] (length r) read_entry (ltb 3 chip || ltb 5 option) (framed_of chip address option) o q b k after l r
 
-pub read_call : (chip address option : ℕ) (o : FrameOptions) (k : Call) → k ≡ call_of chip address (kind.Read o) → o ≡ frame_options_of option → k ≡ call_of chip address (kind.Read (frame_options_of option))
-read_call chip address option o k e q = e ∙ ap (λ (o : FrameOptions). call_of chip address (kind.Read o)) q
+-- ---- step, entry by entry
+
+pub transaction_stepped : (list written b r : List ℕ) (a : ℕ) → step_left (in_block (transaction_call list (length written) (length r))) written b r a ≡ entry.transaction_step b list written r a
+unfolding master_step
+transaction_stepped list written b r a = step_is (λ (p : Partner). called p kind.Transaction) list (length written) (length r) transaction_entry written b r a
+
+pub write_read_stepped : (written b r : List ℕ) (a : ℕ) → step_left (in_block (write_read_call (length written) (length r))) written b r a ≡ entry.write_read_step b written r a
+unfolding master_step
+write_read_stepped written b r a = step_is (λ (p : Partner). called p kind.WriteRead) [] (length written) (length r) write_read_entry written b r a
+
+pub write_stepped : (written b : List ℕ) (a : ℕ) → step_left (in_block (write_call (length written))) written b [] a ≡ entry.write_step b written a
+unfolding master_step
+write_stepped written b a = step_is (framed (λ o. kind.Write o)) [] (length written) 0 write_entry written b [] a
+
+pub read_stepped : (b r : List ℕ) (a : ℕ) → step_left (in_block (read_call (length r))) [] b r a ≡ entry.read_step b r a
+unfolding master_step
+read_stepped b r a = step_is (framed (λ o. kind.Read o)) [] 0 (length r) read_entry [] b r a

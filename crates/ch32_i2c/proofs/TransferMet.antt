@@ -3,18 +3,17 @@
 use mathlib.Core.Path.{◌≡◌, refl, sym, subst}
 use mathlib.Core.Bool.{Bool, true, not, ◌&&◌, true≢false}
 use lib.Dec.{eqb}
+use Rattle.std.specs.Prelude.{Option, Some, None}
 use Rattle.access.specs.declared.need.Need.{Need}
 use Rattle.access.specs.declared.need.Need.TheVariants as need
-use Rattle.access.specs.declared.ending.Ending.{Ending}
-use Rattle.access.specs.Endings.{is_done}
+use Rattle.access.specs.Endings.{Ending, is_done}
 use Rattle.errors.specs.Met.{has_failed}
 use Rattle.access.proofs.Choice.{second_true, both_true, other_true}
 use Rattle.master.specs.declared.stage.Stage.{Stage}
 use Rattle.master.specs.declared.stage.Stage.TheVariants.{Ended}
 use Rattle.master.specs.declared.state.Progress.{Progress}
 use Rattle.master.specs.declared.state.Move.{Move}
-use Rattle.operations.specs.declared.search.FoundRun.{FoundRun}
-use Rattle.operations.specs.declared.search.FoundRun.TheVariants.{At, Nothing}
+use Rattle.operations.specs.declared.search.Run.{Run}
 use Rattle.operations.specs.Runs.{run_at}
 use Rattle.master.specs.declared.call.Setting.{Setting}
 use Rattle.master.specs.Machine.{Shape, owed, owed_at}
@@ -39,15 +38,15 @@ last_true a b c d e f g h q =
 
 module _ (g : Setting) where
   -- an ended state that fits
-  met_ended : (f : FoundRun) (d : Progress) → fits_found g f Ended d ≡ true → MetNeed (transfer_ends g.chip) (owed_at g Ended d)
-  met_ended (At r) d e =
+  met_ended : (f : Option Run) (d : Progress) → fits_found g f Ended d ≡ true → MetNeed (transfer_ends g.chip) (owed_at g Ended d)
+  met_ended (Some r) d e =
       met_or_done g.chip d.ending (eqb d.left 0 && not r.more) (second_true (counts r d) (is_over g.chip r d) e)
-  met_ended Nothing d e =
+  met_ended None d e =
       met_or_done g.chip d.ending true
       (other_true (has_failed g.chip true d.ending)
       (both_true (last_true (not d.reading) (eqb d.run 0) (eqb d.left 0) (eqb d.place 0) (eqb d.word 0) (eqb d.divider 0) (eqb d.rise 0) (is_done d.ending) e) refl))
 
-  met_at : (f : FoundRun) (st : Stage) (d : Progress) → fits_found g f st d ≡ true → MetNeed (transfer_ends g.chip) (owed_at g st d)
+  met_at : (f : Option Run) (st : Stage) (d : Progress) → fits_found g f st d ≡ true → MetNeed (transfer_ends g.chip) (owed_at g st d)
   met_at f st d e = by_stage (MetNeed (transfer_ends g.chip)) (met_plain (transfer_ends g.chip)) g st d (λ q. met_ended f d (subst (λ (x : Stage). fits_found g f x d ≡ true) q e)) tt
 
 pub transfer_met : (sh : Shape) (m : Move) → fits sh m ≡ true → MetNeed (transfer_ends sh.setting.chip) (owed sh m)

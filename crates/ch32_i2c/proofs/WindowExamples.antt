@@ -5,10 +5,10 @@ use mathlib.Core.List.{[], ◌∷◌}
 use mathlib.Core.Option.{some}
 use lib.Dec.{lit<, lit≤}
 use lib.ListN.{replicate}
+use Rattle.std.specs.Prelude.{Some, None}
 use Rattle.registers.specs.Word.{put_bit, put_field}
 use Rattle.access.specs.declared.ending.Error.TheVariants.{InputTooSlow}
 use Rattle.timing.specs.Rust.{timing}
-use Rattle.speed_window.specs.declared.pair.Found.TheVariants.{At, Nothing}
 use Rattle.speed_window.specs.Formula.{pair, fastest_of, window}
 use Rattle.speed_window.specs.Setting.{are_of, Sets}
 use Rattle.speed_window.proofs.WindowLaws.{window_finds}
@@ -20,15 +20,15 @@ use Rattle.ch32_i2c.proofs.SpeedWindow.{speed_window}
 -- 36 MHz: 95,000 to 100,000 Hz is factor 2 with divider 180, 360,000 Hz is factor 25 with divider 4, and upside down there is none
 standard_answer : Answers 36_000_000 95_000 100_000 0x200b40000
 unfolding window fastest_of
-standard_answer = record { answer = At (pair 2 180); finds = window_finds 36_000_000 95_000 100_000; number = refl }
+standard_answer = record { answer = Some (pair 2 180); finds = window_finds 36_000_000 95_000 100_000; number = refl }
 
 fast_answer : Answers 36_000_000 360_000 360_000 0x1900040000
 unfolding window fastest_of
-fast_answer = record { answer = At (pair 25 4); finds = window_finds 36_000_000 360_000 360_000; number = refl }
+fast_answer = record { answer = Some (pair 25 4); finds = window_finds 36_000_000 360_000 360_000; number = refl }
 
 no_answer : Answers 36_000_000 100_000 95_000 0x1400
 unfolding window fastest_of
-no_answer = record { answer = Nothing; finds = window_finds 36_000_000 100_000 95_000; number = refl }
+no_answer = record { answer = None; finds = window_finds 36_000_000 100_000 95_000; number = refl }
 
 -- what sets them
 standard_sets : Sets (chip_of 1) 36_000_000 (pair 2 180)

@@ -27,8 +27,6 @@ use Rattle.access.proofs.Choice.{first_false, second_false}
 use Rattle.operations.specs.Operations.{shaped}
 use Rattle.timing.specs.declared.settings.Duty.{Duty}
 use Rattle.timing.specs.declared.settings.Timing.{Timing}
-use Rattle.timing.specs.declared.settings.Timed.{Timed}
-use Rattle.timing.specs.declared.settings.Timed.TheVariants as timed
 use Rattle.timing.specs.declared.init.Stage as timingStage
 use Rattle.timing.specs.declared.init.Stage.TheVariants as timingStages
 use Rattle.timing.specs.declared.init.State as timingState
@@ -56,10 +54,13 @@ use Rattle.ch32_i2c.specs.Manual.{Rule, Keeps, AddressWord, to_write, to_read, a
 use Rattle.ch32_i2c.specs.Init as cInit
 use Rattle.ch32_i2c.specs.InitSlave as cInitSlave
 use Rattle.ch32_i2c.specs.Demands.{timed_refusal}
-use Rattle.ch32_i2c.proofs.InitRange.{divider_small}
-use Rattle.ch32_i2c.proofs.InitCarried.{settings_stay, config_stays}
+use Rattle.timing.proofs.InRange.{divider_small}
+use Rattle.timing.proofs.SettingsStay.{settings_stay}
+use Rattle.slave_driver.proofs.ConfigStays.{config_stays}
 use Rattle.ch32_i2c.proofs.TransferStages.{is_plain, by_stage}
 use Rattle.ch32_i2c.proofs.CallsRun.{call_shown_lem, config_passed, init_shown_lem, shown_timed}
+use Rattle.std.specs.Prelude.{Result, Ok, Err}
+use Rattle.access.specs.declared.ending.Error.{Error}
 
 -- ---- a rule for all that is shown
 
@@ -261,10 +262,10 @@ module _ (chip : Chip) (input frequency : ℕ) (duty : Duty) (t : Timing) (none-
       shown_obeys (clocking chip input frequency duty) init_machine.init_machine [] (λ s. s.timing ≡ t) (λ s a e. settings_stay s a ∙ e) owed_settings (init_machine.started chip t) refl answers
 
 module _ (chip input frequency duty : ℕ) where
-  timed_obeys : (x : Timed) → AsDocumented (chip_of chip) input frequency (cInit.duty_of duty) x → timed_refusal x ≡ none → (answers : List ℕ)
+  timed_obeys : (x : Result Timing Error) → AsDocumented (chip_of chip) input frequency (cInit.duty_of duty) x → timed_refusal x ≡ none → (answers : List ℕ)
       → Obey (clocking (chip_of chip) input frequency (cInit.duty_of duty)) (shown_timed chip x answers).events
-  timed_obeys (timed.At t) (settled p d) q answers = settled_obeys (chip_of chip) input frequency (cInit.duty_of duty) t p d answers
-  timed_obeys (timed.Refused e) h q answers = let z : ◌≡◌ {A = ℕ} 0 1 = cc in absurd (omega arith)
+  timed_obeys (Ok t) (settled p d) q answers = settled_obeys (chip_of chip) input frequency (cInit.duty_of duty) t p d answers
+  timed_obeys (Err e) h q answers = let z : ◌≡◌ {A = ℕ} 0 1 = cc in absurd (omega arith)
 
   pub init_obeys : timed_refusal (timing (chip_of chip) input frequency (cInit.duty_of duty)) ≡ none → (answers : List ℕ)
       → Obey (clocking (chip_of chip) input frequency (cInit.duty_of duty)) (shown_timed chip (timing (chip_of chip) input frequency (cInit.duty_of duty)) answers).events

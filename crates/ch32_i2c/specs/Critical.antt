@@ -1,5 +1,5 @@
 -- Where the Rust holds interrupts off: the two `critical_section::with` of blocking_read_iter.
-use Rattle.std.specs.Prelude.{ℕ, Bool, true, false, cond, ◌&&◌, List, eqb, length}
+use Rattle.std.specs.Prelude.{ℕ, Bool, true, false, cond, ◌&&◌, List, eqb, length, Option, Some, None}
 use Rattle.access.specs.Endings.{is_done}
 use Rattle.block.specs.Bytes32.{block_size, fields_of}
 use Rattle.master.specs.declared.stage.AddressStage.{AddressStage}
@@ -11,8 +11,6 @@ use Rattle.master.specs.declared.stage.StopFor.TheVariants as stop
 use Rattle.master.specs.declared.stage.Stage.{Stage}
 use Rattle.master.specs.declared.stage.Stage.TheVariants.{Begin, WaitStop, LaunchStart, Wait, Address, SendByte, RecvByte, ReadIter, GenerateStop, Abort, Ended}
 use Rattle.master.specs.declared.state.State.{State}
-use Rattle.images.specs.declared.master_image.MasterFound.{MasterFound}
-use Rattle.images.specs.declared.master_image.MasterFound.TheVariants.{At, Nothing}
 use Rattle.images.specs.MasterImage.{master_in}
 
 -- the first section: ACK off, STAR2, STOP or START for one byte; the second: STOP or START, and the last two bytes
@@ -61,9 +59,9 @@ abbrev pub is_critical : State → Bool
 is_critical s = is_done s.progress.ending && (s.progress.reading && in_section s.stage)
 
 -- no block that holds no transfer's state is
-abbrev pub is_critical_in : MasterFound → Bool
-is_critical_in (At s) = is_critical s
-is_critical_in Nothing = false
+abbrev pub is_critical_in : Option State → Bool
+is_critical_in (Some s) = is_critical s
+is_critical_in None = false
 
 -- what C gets for a block
 unfoldable pub critical : List ℕ → ℕ

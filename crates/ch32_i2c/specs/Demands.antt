@@ -1,5 +1,5 @@
 -- The three demands, said of what C programs call: of blocks, lent bytes and what the eighteen begins and steps hand out. Each one's
--- contract says that it returns the number of what its definition hands out, and leaves the definition's bytes (`Leaves`, specs/Left.antt).
+-- contract says that it returns the number of what its definition hands out, and leaves the definition's bytes (`Leaves`, crate call).
 --
 -- Which definition each contract cites (tests/tie.py, a part of `make test`, compares this with the contracts in src/ and with `entry_of`):
 --
@@ -24,17 +24,16 @@
 --
 -- Beside the calls stand two questions, which have no step and make no access: ch32_i2c_is_critical (specs/Critical.antt), and
 -- ch32_i2c_speed_window, whose demands are in specs/SpeedWindow.antt.
-use Rattle.std.specs.Prelude.{◌≡◌, Bool, true, false, not, ◌&&◌, ◌||◌, List, [], ◌∷◌, ◌++◌, map, ℕ, suc, pred, ◌<◌, ◌≤◌, eqb, ltb, length, take}
+use Rattle.std.specs.Prelude as prelude
+use Rattle.std.specs.Prelude.{◌≡◌, Bool, true, false, not, ◌&&◌, ◌||◌, List, [], ◌∷◌, ◌++◌, map, ℕ, suc, pred, ◌<◌, ◌≤◌, eqb, ltb, length, take, Some, None, Result, Ok, Err}
 use Rattle.std.proofs.Math.Option.{Option, none, some}
 use Rattle.registers.specs.declared.chip.Chip.{Chip}
-use Rattle.access.specs.declared.ending.Ending.{Ending}
-use Rattle.access.specs.declared.ending.Ending.TheVariants.{Done, Failed}
 use Rattle.access.specs.declared.ending.Failure.{Failure}
 use Rattle.access.specs.declared.ending.Error.{Error}
 use Rattle.access.specs.declared.ending.Error.TheVariants.{Bus, InvalidState, InvalidArgument}
 use Rattle.access.specs.declared.next.Next.{Next}
 use Rattle.access.specs.declared.next.Next.TheVariants as next
-use Rattle.access.specs.Endings.{error_number, done, returned, returned_both, failed}
+use Rattle.access.specs.Endings.{Ending, error_number, done, returned, returned_both, failed}
 use Rattle.access.specs.Machine.{is_end}
 use Rattle.access.specs.Numbers.{next_number, HoldsWords}
 use Rattle.access.specs.Program as program
@@ -47,11 +46,10 @@ use Rattle.errors.specs.Departs.{end_departs, ClassIsTheRusts}
 use Rattle.operations.specs.Operations.{operations_of}
 use Rattle.operations.specs.Runs.{is_empty}
 use Rattle.block.specs.Bytes32.{block_size}
-use Rattle.timing.specs.declared.settings.Timed.{Timed}
-use Rattle.timing.specs.declared.settings.Timed.TheVariants as timed
 use Rattle.timing.specs.Rust.{timing}
 use Rattle.timing.specs.Claims as timing
 use Rattle.timing.specs.Machine as init_machine
+use Rattle.master.specs.declared.state.State.{State}
 use Rattle.master.specs.declared.call.Call as transfer
 use Rattle.master.specs.declared.call.Kind.TheVariants as kind
 use Rattle.master.specs.Steps as master
@@ -60,6 +58,7 @@ use Rattle.master.specs.Ours as parts
 use Rattle.master.specs.Joined.{Joined, JW, JR, joined, runs_program}
 use Rattle.master.specs.Calls.{Lent, lent_with, cut, refuse, refusal, rust_with, ours_with, until_with, spans_by, NoAddedCause}
 use Rattle.master.specs.Claims.{RunsJoin}
+use Rattle.slave.specs.declared.state.State as slaveState
 use Rattle.slave.specs.declared.config.SlaveAddress.{SlaveAddress}
 use Rattle.slave.specs.declared.config.SlaveAddress.TheVariants.{SevenBit, TenBit}
 use Rattle.slave.specs.declared.command.SlaveCommand.{SlaveCommand}
@@ -74,17 +73,9 @@ use Rattle.slave.specs.Rust.{send_status}
 use Rattle.slave.specs.Claims.{CountsAsTheRust}
 use Rattle.slave.specs.Numbers.{command_number, status_number}
 use Rattle.slave_driver.specs.Lent as slaveLent
-use Rattle.images.specs.declared.init_image.InitFound.{InitFound}
-use Rattle.images.specs.declared.init_image.InitFound.TheVariants as initFound
-use Rattle.images.specs.declared.master_image.MasterFound.{MasterFound}
-use Rattle.images.specs.declared.master_image.MasterFound.TheVariants as masterFound
-use Rattle.images.specs.declared.init_slave_image.InitSlaveFound.{InitSlaveFound}
-use Rattle.images.specs.declared.init_slave_image.InitSlaveFound.TheVariants as initSlaveFound
-use Rattle.images.specs.declared.slave_image.SlaveFound.{SlaveFound}
-use Rattle.images.specs.declared.slave_image.SlaveFound.TheVariants as slaveFound
 use Rattle.images.specs.Numbers.{chip_of, transaction_entry, write_read_entry, write_entry, read_entry, listen_entry, respond_to_write_entry, respond_to_read_entry}
 use Rattle.images.specs.MasterImage.{frame_options_of}
-use Rattle.ch32_i2c.specs.Left.{Left, refused_with}
+use Rattle.call.specs.Left.{Left, refused_with}
 use Rattle.ch32_i2c.specs.Fed.{Entry, lefts, last_from, handed_out, stored, Makes, Begins, Seen, record_of, end_in, record_in, StruckSeen, struck_by, struck_in, DifferAtPayload, payload_in}
 use Rattle.ch32_i2c.specs.Manual.{Rule, Keeps, free, addressing, owning, clocking}
 use Rattle.calls.specs.Init.{init_held}
@@ -95,6 +86,9 @@ use Rattle.ch32_i2c.specs.Init.{duty_of, init_begin, init_step}
 use Rattle.ch32_i2c.specs.Transfer.{call_of, transaction_begin, transaction_step, write_read_begin, write_read_step, write_begin, write_step, read_begin, read_step}
 use Rattle.ch32_i2c.specs.InitSlave.{config_of, unknown_flags, init_slave_begin, init_slave_step}
 use Rattle.ch32_i2c.specs.Response.{listen_begin, listen_step, respond_to_write_begin, respond_to_write_step, respond_to_read_begin, respond_to_read_step}
+use Rattle.timing.specs.declared.settings.Timing.{Timing}
+use Rattle.timing.specs.declared.init.State as initState
+use Rattle.slave.specs.declared.init.InitState.{InitState}
 
 -- ---- calls
 
@@ -148,9 +142,9 @@ unknown (listen chip) = ltb 3 chip
 unknown (respond_to_write chip) = ltb 3 chip
 unknown (respond_to_read chip reply) = ltb 3 chip
 
-abbrev pub timed_refusal : Timed → Option Error
-timed_refusal (timed.At t) = none
-timed_refusal (timed.Refused e) = some e
+abbrev pub timed_refusal : Result Timing Error → Option Error
+timed_refusal (Ok t) = none
+timed_refusal (Err e) = some e
 
 -- the call's own causes, in the order of documents 01 and 02, where so many bytes are lent to read
 abbrev pub own_refusal : Call → ℕ → Option Error
@@ -175,9 +169,9 @@ Accepted c block bytes = refusal_of c (length block) (length bytes) ≡ none
 -- ---- layer 1: its text with the Rust's parts, and with ours
 
 -- what is seen of a call after a list of answers, each loop with so many turns. `init` and `init_slave` have no part in which ours differs
-abbrev pub timed_shown : ℕ → ℕ → Timed → List ℕ → Shown
-timed_shown chip turns (timed.At t) answers = timing.rust_init (chip_of chip) t turns answers
-timed_shown chip turns (timed.Refused e) answers = no_more (some (failed e))
+abbrev pub timed_shown : ℕ → ℕ → Result Timing Error → List ℕ → Shown
+timed_shown chip turns (Ok t) answers = timing.rust_init (chip_of chip) t turns answers
+timed_shown chip turns (Err e) answers = no_more (some (failed e))
 
 abbrev pub layer1 : (ℕ → transfer.Call → Lent → List ℕ → Shown) → (ℕ → Chip → response.Kind → SlaveLent → List ℕ → Shown) → ℕ → Call → ℕ → List ℕ → Shown
 layer1 shownTransfer shownResponse turns (init chip input frequency duty) room answers = timed_shown chip turns (timing (chip_of chip) input frequency (duty_of duty)) answers
@@ -316,21 +310,21 @@ pub record EndsMoved (ours rust : Option Ending) : Type 0 where
 -- ---- demand 1: one next step, and bad calls refused
 
 -- whether a step is taken: the block is the image of a state of the entry's call that fits what is lent, and has not ended
-abbrev pub takes_init : InitFound → Bool
-takes_init (initFound.At s) = not (is_end (init_machine.owed s))
-takes_init initFound.Nothing = false
+abbrev pub takes_init : prelude.Option initState.State → Bool
+takes_init (Some s) = not (is_end (init_machine.owed s))
+takes_init None = false
 
-abbrev pub takes_transfer : MasterFound → Lent → Bool
-takes_transfer (masterFound.At s) l = master.is_open s l
-takes_transfer masterFound.Nothing l = false
+abbrev pub takes_transfer : prelude.Option State → Lent → Bool
+takes_transfer (Some s) l = master.is_open s l
+takes_transfer None l = false
 
-abbrev pub takes_init_slave : InitSlaveFound → Bool
-takes_init_slave (initSlaveFound.At s) = not (is_end (initSlaveMachine.owed s))
-takes_init_slave initSlaveFound.Nothing = false
+abbrev pub takes_init_slave : prelude.Option InitState → Bool
+takes_init_slave (Some s) = not (is_end (initSlaveMachine.owed s))
+takes_init_slave None = false
 
-abbrev pub takes_response : SlaveFound → SlaveLent → Bool
-takes_response (slaveFound.At s) l = slave.is_open s (size_of s.kind l)
-takes_response slaveFound.Nothing l = false
+abbrev pub takes_response : prelude.Option slaveState.State → SlaveLent → Bool
+takes_response (Some s) l = slave.is_open s (size_of s.kind l)
+takes_response None l = false
 
 abbrev pub takes : Call → List ℕ → List ℕ → Bool
 takes (init chip input frequency duty) block bytes = takes_init (init_held block)
@@ -364,8 +358,8 @@ pub record Over (c : Call) (block bytes answers more : List ℕ) : Type 0 where
 
 -- the ends of an accepted call: 0, where the second number is 0 unless the call returns two; or an error that the hardware can give it
 abbrev pub ends_by : Bool → (Failure → Bool) → Ending → Bool
-ends_by two fails (Done o) = two || eqb o.second 0
-ends_by two fails (Failed f) = fails f
+ends_by two fails (Ok o) = two || eqb o.second 0
+ends_by two fails (Err f) = fails f
 
 -- errors are 1 to 6, with flags in which a check finds this error on the chip, as a master or a slave; or without flags where no check decided: a
 -- late clock, and a master's lost START (`is_met`, errors/specs/Met.antt). `init` and `init_slave` meet none, and a reply alone returns two numbers
@@ -401,7 +395,7 @@ InBits (TenBit a) = a < 1024
 -- what a listen and a reply can be done with: a command whose address is in its bits; the statuses of two numbers of bytes sent
 pub data Commanded : Ending → Type 0 where
   with_command : (c : SlaveCommand) → InBits c.address → Commanded (returned (command_number c))
-  without_command : (f : Failure) → Commanded (Failed f)
+  without_command : (f : Failure) → Commanded (Err f)
 
 -- the second of them, by the first: the same, or one less, where AF found a byte that the master had not taken
 pub data IsSecond (sent : ℕ) : ℕ → Type 0 where
@@ -414,7 +408,7 @@ left_both size sent second = returned_both (status_number (send_status size sent
 
 pub data Replied (size : ℕ) : Ending → Type 0 where
   with_status : (sent second : ℕ) → IsSecond sent second → Replied size (left_both size sent second)
-  without_status : (f : Failure) → Replied size (Failed f)
+  without_status : (f : Failure) → Replied size (Err f)
 
 -- "A call handed in, with any address, list, buffers and register answers, has after each answer exactly one next access or one end."
 -- "A bad call is refused by number before any access, with every lent byte unchanged."
@@ -538,7 +532,7 @@ pub record SeenAlike (Alike : Ending → Ending → Type 0) (c₁ c₂ : Call) (
 -- the ends of two replies of these lengths: both fail alike, or both are done, where one number of bytes sent, and one for the second count,
 -- give each by its length the bytes left over
 pub data RepliesEnd (n m : ℕ) : Ending → Ending → Type 0 where
-  both_failed : (f : Failure) → RepliesEnd n m (Failed f) (Failed f)
+  both_failed : (f : Failure) → RepliesEnd n m (Err f) (Err f)
   both_done : (sent second : ℕ) → IsSecond sent second → RepliesEnd n m (left_both n sent second) (left_both m sent second)
 
 -- two transfers of one kind, chip and address (a transaction, a write-read, or a frame with its option) whose runs agree in direction and

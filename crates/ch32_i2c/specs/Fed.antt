@@ -3,15 +3,14 @@ use Rattle.std.specs.Prelude.{◌≡◌, Bool, true, false, cond, not, List, [],
 use Rattle.std.proofs.Math.Option.{Option, none, some}
 use Rattle.registers.specs.declared.register.Register.{Register}
 use Rattle.registers.specs.declared.register.Register.TheVariants.{Datar}
-use Rattle.access.specs.declared.ending.Ending.{Ending}
 use Rattle.access.specs.declared.ending.Error.TheVariants.{InvalidState}
 use Rattle.access.specs.declared.next.Next.{Next}
 use Rattle.access.specs.declared.next.Next.TheVariants as next
-use Rattle.access.specs.Endings.{failed, done}
+use Rattle.access.specs.Endings.{Ending, failed, done}
 use Rattle.access.specs.Program.{Access, read, write, send, clock}
 use Rattle.access.specs.Record.{Event, Arrival, Shown, Struck, is_data, struck, EqualUnless}
 use Rattle.access.specs.Record as layer1
-use Rattle.ch32_i2c.specs.Left.{Left, refused_with}
+use Rattle.call.specs.Left.{Left, refused_with}
 
 -- what begin leaves of a block and the bytes read, and what a step with an answer leaves; all else is lent as at begin
 pub record Entry : Type 0 where

@@ -1,10 +1,11 @@
 -- `init_slave`: what begin and step leave. No bytes are read.
-use Rattle.std.specs.Prelude.{Bool, ◌||◌, List, [], ℕ, eqb, ltb}
+use Rattle.std.specs.Prelude.{Bool, ◌||◌, List, [], ℕ, eqb, ltb, Option}
 use Rattle.slave.specs.declared.config.SlaveConfig.{SlaveConfig}
 use Rattle.images.specs.InitSlaveImage.{address_of, second_of}
+use Rattle.call.specs.Edge.{known}
 use Rattle.calls.specs.InitSlave.{init_slave_on}
 use Rattle.calls.specs.InitSlave as on_block
-use Rattle.ch32_i2c.specs.Left.{Left, begin_left, step_left}
+use Rattle.call.specs.Left.{Left, begin_left, step_left}
 
 -- a flag that is 1
 abbrev pub is_one : ℕ → Bool
@@ -25,3 +26,7 @@ init_slave_begin block ten address has second general stretching =
 
 unfoldable pub init_slave_step : List ℕ → ℕ → Left
 init_slave_step block a = step_left init_slave_on [] block [] a
+
+-- the configuration, unless one of its flags means nothing
+abbrev pub taken_config : ℕ → ℕ → ℕ → ℕ → ℕ → ℕ → Option SlaveConfig
+taken_config ten address has second general stretching = known (unknown_flags ten has general stretching) (config_of ten address has second general stretching)

@@ -1,4 +1,3 @@
-pub mod Left
 pub mod Init
 pub mod Transfer
 pub mod InitSlave

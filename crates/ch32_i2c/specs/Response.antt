@@ -3,7 +3,7 @@ use Rattle.std.specs.Prelude.{List, [], ℕ, length}
 use Rattle.images.specs.Numbers.{listen_entry, respond_to_write_entry, respond_to_read_entry}
 use Rattle.slave.specs.declared.state.Kind.TheVariants.{Listen, RespondToWrite, RespondToRead}
 use Rattle.calls.specs.Response.{response_on, response_begin}
-use Rattle.ch32_i2c.specs.Left.{Left, begin_left, step_left}
+use Rattle.call.specs.Left.{Left, begin_left, step_left}
 
 abbrev pub listen_begin : List ℕ → ℕ → Left
 listen_begin block chip = begin_left [] (response_begin 0 chip Listen block) []

@@ -1,5 +1,5 @@
 -- The speed window as C asks for it, and what the demands are for it. Which pairs are right and best: speed_window/specs/Pairs.antt.
-use Rattle.std.specs.Prelude.{◌≡◌, true, cond, List, [], ◌∷◌, ◌++◌, ℕ, ◌<◌, ◌≤◌, eqb, length}
+use Rattle.std.specs.Prelude.{◌≡◌, true, cond, List, [], ◌∷◌, ◌++◌, ℕ, ◌<◌, ◌≤◌, eqb, length, Option, Some, None}
 use Rattle.std.proofs.Math.Option.{some}
 use Rattle.registers.specs.declared.register.Register.{Register}
 use Rattle.registers.specs.declared.register.Register.TheVariants.{Ckcfgr}
@@ -7,37 +7,34 @@ use Rattle.registers.specs.Numbers.{register_number}
 use Rattle.registers.specs.Bits.{DUTY, F_S}
 use Rattle.registers.specs.Fields.{CCR}
 use Rattle.registers.specs.Word.{put_bit, put_field}
-use Rattle.access.specs.declared.ending.Ending.{Ending}
 use Rattle.access.specs.declared.ending.Error.{Error}
 use Rattle.access.specs.declared.ending.Error.TheVariants.{NoSuchSpeed}
 use Rattle.access.specs.declared.next.Next.{Next}
 use Rattle.access.specs.declared.next.Next.TheVariants as next
-use Rattle.access.specs.Endings.{returned_both, failed}
+use Rattle.access.specs.Endings.{Ending, returned_both, failed}
 use Rattle.access.specs.Numbers.{next_number}
 use Rattle.block.specs.Bytes32.{block_size}
-use Rattle.timing.specs.declared.settings.Timed.TheVariants as timed
 use Rattle.timing.specs.Rust.{timing}
 use Rattle.speed_window.specs.declared.pair.Pair.{Pair}
-use Rattle.speed_window.specs.declared.pair.Found.{Found}
-use Rattle.speed_window.specs.declared.pair.Found.TheVariants.{At, Nothing}
 use Rattle.speed_window.specs.Pairs.{Right, Best, Finds}
 use Rattle.speed_window.specs.Formula.{pair, window}
 use Rattle.speed_window.specs.Setting.{frequency_of, is_fast, is16_9, duty_of, Sets, EnoughFor, PairsAreSet}
 use Rattle.images.specs.Numbers.{chip_of}
 use Rattle.ch32_i2c.specs.Fed.{Seen}
 use Rattle.ch32_i2c.specs.Demands.{Call, init, refusal_of, Accepted, record_after}
+use Rattle.std.specs.Prelude.{Err}
 
 -- the end: 0 with the divider and the factor, or 20
-abbrev pub end_of : Found → Ending
-end_of (At p) = returned_both p.divider p.factor
-end_of Nothing = failed NoSuchSpeed
+abbrev pub end_of : Option Pair → Ending
+end_of (Some p) = returned_both p.divider p.factor
+end_of None = failed NoSuchSpeed
 
 abbrev pub end_number : Ending → ℕ
 end_number e = next_number (next.End e)
 
 -- what `ch32_i2c_speed_window` is held to: the number is that of the best pair, or of 20 where no pair is right
 pub record Answers (input lowest highest n : ℕ) : Type 0 where
-  pub answer : Found
+  pub answer : Option Pair
   pub finds : Finds input (Right input lowest highest) answer
   pub number : n ≡ end_number (end_of answer)
 
@@ -86,7 +83,7 @@ pub record SpeedWindow : Type 0 where
   -- and `init` writes it; or `init` is refused as `timing` says, below 4 MHz on ch32v4 with 12, and at 0 with 10
   pub pairs : PairsAreSet
   pub writes : (chip input : ℕ) (p : Pair) (block : List ℕ) → chip < 4 → length block ≡ block_size → Sets (chip_of chip) input p → InitWrites chip input p block
-  pub no_writes : (chip input : ℕ) (p : Pair) (block : List ℕ) (e : Error) → chip < 4 → length block ≡ block_size → timing (chip_of chip) input (frequency_of input p) (duty_of p) ≡ timed.Refused e
+  pub no_writes : (chip input : ℕ) (p : Pair) (block : List ℕ) (e : Error) → chip < 4 → length block ≡ block_size → timing (chip_of chip) input (frequency_of input p) (duty_of p) ≡ Err e
       → refusal_of (setting chip input p) (length block) 0 ≡ some e
   -- together: every right pair of factor 3 or 25 is written, and every pair that is answered
   pub fast_written : (chip input lowest highest : ℕ) (p : Pair) (block : List ℕ) → chip < 4 → length block ≡ block_size → Right input lowest highest p → is_fast p ≡ true

@@ -6,12 +6,21 @@ use Rattle.master.specs.declared.call.Kind.TheVariants as kind
 use Rattle.master.specs.Calls.{Lent, lent_with}
 use Rattle.images.specs.Numbers.{chip_of, transaction_entry, write_read_entry, write_entry, read_entry}
 use Rattle.images.specs.MasterImage.{frame_options_of}
+use Rattle.calls.specs.declared.transfer.Partner.{Partner}
+use Rattle.calls.specs.declared.transfer.Framed.{Framed}
 use Rattle.calls.specs.Transfer.{transfer_on, transfer_begin}
-use Rattle.ch32_i2c.specs.Left.{Left, begin_left, step_left}
+use Rattle.call.specs.Left.{Left, begin_left, step_left}
 
 -- the call that C's numbers mean
 abbrev pub call_of : ℕ → ℕ → Kind → Call
 call_of chip address k = record { chip = chip_of chip; address = address; kind = k }
+
+-- the partner that they mean, and a frame's
+abbrev pub partner_of : ℕ → ℕ → Partner
+partner_of chip address = record { chip = chip_of chip; address = address }
+
+abbrev pub framed_of : ℕ → ℕ → ℕ → Framed
+framed_of chip address option = record { partner = partner_of chip address; options = frame_options_of option }
 
 -- `unknown`: an argument is none that a call has
 unfoldable pub master_begin : Bool → Call → List ℕ → Lent → List ℕ → Left

@@ -3,7 +3,7 @@ ghost use Rattle.std.specs.Prelude.{◌≡◌, ◌&&◌, eqb};
 ghost use Rattle.stage_numbers.specs.MasterStage.{read_stage_number, read_stage_of, stage_of, is_stage};
 ghost use Rattle.ch32_i2c.specs.Critical.{in_read_section, in_section, critical};
 
-use block::{at, bytes32};
+use block::at;
 use images::{end_image, numbers};
 use master_call::held;
 use master_step::stage;
@@ -28,13 +28,10 @@ fn in_section(group: u8, what: u8, phase: u8) -> bool
     }
 }
 
-// 1 if the access that the block owes lies in such a section, else 0. Most accesses do not, which the stage tells at once.
-pub fn ch32_i2c_is_critical(block: &[u8]) -> u64
+// 1 if the access that a block owes lies in such a section, else 0. Most accesses do not, which the stage tells at once.
+fn is_critical(block: &[u8; 32]) -> u64
     ensures { result ≡ critical block.now }
 {
-    if block.len() != bytes32::BLOCK_SIZE {
-        return 0;
-    }
     let reading = numbers::flag_at(1, block[at::MARKS]);
     let section = in_section(block[at::GROUP], block[at::WHAT], block[at::PHASE]);
     if reading & section {
@@ -46,4 +43,13 @@ pub fn ch32_i2c_is_critical(block: &[u8]) -> u64
     } else {
         0
     }
+}
+
+pub fn ch32_i2c_is_critical(block: &[u8]) -> u64
+    ensures { result ≡ critical block.now }
+{
+    let Some(whole) = block.as_array::<32>() else {
+        return 0;
+    };
+    is_critical(whole)
 }

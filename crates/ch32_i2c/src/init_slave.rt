@@ -1,10 +1,10 @@
 // `init_slave`.
 ghost use Rattle.std.specs.Prelude.{◌≡◌};
-ghost use Rattle.ch32_i2c.specs.Left.{LeavesBlock};
-ghost use Rattle.ch32_i2c.specs.InitSlave.{config_of, unknown_flags, init_slave_begin, init_slave_step};
+ghost use Rattle.call.specs.Left.{LeavesBlock};
+ghost use Rattle.ch32_i2c.specs.InitSlave.{config_of, unknown_flags, taken_config, init_slave_begin, init_slave_step};
 
-use crate::left;
-use calls::init_slave;
+use call::edge;
+use calls::init_slave::InitSlave;
 use images::init_slave_image;
 use slave::SlaveConfig;
 
@@ -27,6 +27,24 @@ fn unknown_flags(ten: u8, has: u8, general: u8, stretching: u8) -> bool
     ((1 < ten) | (1 < has)) | ((1 < general) | (1 < stretching))
 }
 
+// The configuration, unless one of its flags means nothing.
+fn taken_config(
+    ten: u8,
+    address: u16,
+    has: u8,
+    second: u8,
+    general: u8,
+    stretching: u8,
+) -> Option<SlaveConfig>
+    ensures { result ≡ taken_config ten address has second general stretching }
+{
+    if unknown_flags(ten, has, general, stretching) {
+        return None;
+    }
+    Some(config_of(ten, address, has, second, general, stretching))
+}
+
+#[tactic(auto, using(crate::proofs::InitLeaves::init_slave_begin_at))]
 pub fn ch32_i2c_init_slave_begin(
     block: &mut [u8],
     ten_bit: u8,
@@ -38,7 +56,7 @@ pub fn ch32_i2c_init_slave_begin(
 ) -> u64
     ensures { LeavesBlock (init_slave_begin block.old ten_bit address has_second second general_call clock_stretching) result block.new }
 {
-    let config = config_of(
+    let config = taken_config(
         ten_bit,
         address,
         has_second,
@@ -46,16 +64,16 @@ pub fn ch32_i2c_init_slave_begin(
         general_call,
         clock_stretching,
     );
-    let unknown = unknown_flags(ten_bit, has_second, general_call, clock_stretching);
-    let need = init_slave::begin(block, unknown, config);
+    let call = InitSlave;
     let none = [0u8; 0];
-    left::number(need, &none)
+    edge::begin(&call, config, block, &none)
 }
 
+#[tactic(auto, using(crate::proofs::InitLeaves::init_slave_step_at))]
 pub fn ch32_i2c_init_slave_step(block: &mut [u8], answer: u16) -> u64
     ensures { LeavesBlock (init_slave_step block.old answer) result block.new }
 {
-    let need = init_slave::step(block, answer);
+    let call = InitSlave;
     let none = [0u8; 0];
-    left::number(need, &none)
+    edge::step(&call, block, &none, answer)
 }

@@ -5,7 +5,6 @@
 pub mod critical;
 pub mod init;
 pub mod init_slave;
-mod left;
 pub mod response;
 pub mod transfer;
 pub mod window;

@@ -1,38 +1,40 @@
 // Transactions, write-reads and frames.
-ghost use Rattle.std.specs.Prelude.{◌≡◌, length};
-ghost use Rattle.master.specs.Calls.{lent_with};
-ghost use Rattle.ch32_i2c.specs.Left.{Leaves, LeavesBlock};
-ghost use Rattle.ch32_i2c.specs.Transfer.{call_of, master_begin, transaction_begin, transaction_step, write_read_begin, write_read_step, write_begin, write_step, read_begin, read_step};
+ghost use Rattle.std.specs.Prelude.{◌≡◌, ◌||◌, ltb};
+ghost use Rattle.call.specs.Edge.{known};
+ghost use Rattle.call.specs.Left.{Leaves, LeavesBlock};
+ghost use Rattle.ch32_i2c.specs.Transfer.{partner_of, framed_of, transaction_begin, transaction_step, write_read_begin, write_read_step, write_begin, write_step, read_begin, read_step};
 
-use crate::left;
-use calls::transfer;
+use call::edge;
+use calls::transfer::{Framed, Partner, Read, Transaction, Write, WriteRead};
 use images::{master_image, numbers};
-use master::{Call, Kind};
 
-// The call that C's numbers mean.
-fn call_of(chip: u8, address: u8, kind: Kind) -> Call
-    ensures { result ≡ call_of chip address kind }
+// The partner that C's numbers mean, unless the chip is none.
+fn partner(chip: u8, address: u8) -> Option<Partner>
+    ensures { result ≡ known (ltb 3 chip) (partner_of chip address) }
 {
-    Call {
+    if 3 < chip {
+        return None;
+    }
+    Some(Partner {
         chip: numbers::chip_of(chip),
         address: address as u16,
-        kind,
-    }
+    })
 }
 
-// `unknown`: an argument is none that a call has.
-fn begin(
-    unknown: bool,
-    call: Call,
-    block: &mut [u8],
-    list: &[u8],
-    written: &[u8],
-    read: &mut [u8],
-) -> u64
-    ensures { Leaves (master_begin unknown call block.old (lent_with list.now written.now (length read.old)) read.old) result block.new read.new }
+// The same of a frame, unless its option is none.
+fn framed(chip: u8, address: u8, option: u8) -> Option<Framed>
+    ensures { result ≡ known (ltb 3 chip || ltb 5 option) (framed_of chip address option) }
 {
-    let need = transfer::begin(block, unknown, call, list, written.len(), read.len());
-    left::number(need, written)
+    if (3 < chip) | (5 < option) {
+        return None;
+    }
+    Some(Framed {
+        partner: Partner {
+            chip: numbers::chip_of(chip),
+            address: address as u16,
+        },
+        options: master_image::frame_options_of(option),
+    })
 }
 
 pub fn ch32_i2c_transaction_begin(
@@ -45,16 +47,15 @@ pub fn ch32_i2c_transaction_begin(
 ) -> u64
     ensures { Leaves (transaction_begin block.old chip address list.now written.now read.old) result block.new read.new }
 {
-    begin(
-        3 < chip,
-        call_of(chip, address, Kind::Transaction),
-        block,
+    let call = Transaction {
         list,
-        written,
-        read,
-    )
+        written: written.len(),
+        room: read.len(),
+    };
+    edge::begin(&call, partner(chip, address), block, written)
 }
 
+#[tactic(auto, using(crate::proofs::TransferLeaves::transaction_stepped))]
 pub fn ch32_i2c_transaction_step(
     block: &mut [u8],
     list: &[u8],
@@ -64,10 +65,12 @@ pub fn ch32_i2c_transaction_step(
 ) -> u64
     ensures { Leaves (transaction_step block.old list.now written.now read.old answer) result block.new read.new }
 {
-    let stepped = transfer::transaction_step(block, list, written.len(), read.len(), answer);
-    let need = stepped.need;
-    left::keep(stepped.keeps, stepped.place, read, answer);
-    left::number(need, written)
+    let call = Transaction {
+        list,
+        written: written.len(),
+        room: read.len(),
+    };
+    edge::step_reading(&call, block, written, read, answer)
 }
 
 pub fn ch32_i2c_write_read_begin(
@@ -79,17 +82,14 @@ pub fn ch32_i2c_write_read_begin(
 ) -> u64
     ensures { Leaves (write_read_begin block.old chip address written.now read.old) result block.new read.new }
 {
-    let none = [0u8; 0];
-    begin(
-        3 < chip,
-        call_of(chip, address, Kind::WriteRead),
-        block,
-        &none,
-        written,
-        read,
-    )
+    let call = WriteRead {
+        written: written.len(),
+        room: read.len(),
+    };
+    edge::begin(&call, partner(chip, address), block, written)
 }
 
+#[tactic(auto, using(crate::proofs::TransferLeaves::write_read_stepped))]
 pub fn ch32_i2c_write_read_step(
     block: &mut [u8],
     written: &[u8],
@@ -98,10 +98,11 @@ pub fn ch32_i2c_write_read_step(
 ) -> u64
     ensures { Leaves (write_read_step block.old written.now read.old answer) result block.new read.new }
 {
-    let stepped = transfer::write_read_step(block, written.len(), read.len(), answer);
-    let need = stepped.need;
-    left::keep(stepped.keeps, stepped.place, read, answer);
-    left::number(need, written)
+    let call = WriteRead {
+        written: written.len(),
+        room: read.len(),
+    };
+    edge::step_reading(&call, block, written, read, answer)
 }
 
 pub fn ch32_i2c_write_begin(
@@ -113,27 +114,20 @@ pub fn ch32_i2c_write_begin(
 ) -> u64
     ensures { LeavesBlock (write_begin block.old chip address option written.now) result block.new }
 {
-    let none = [0u8; 0];
-    let mut nowhere = [0u8; 0];
-    begin(
-        (3 < chip) | (5 < option),
-        call_of(
-            chip,
-            address,
-            Kind::Write(master_image::frame_options_of(option)),
-        ),
-        block,
-        &none,
-        written,
-        &mut nowhere,
-    )
+    let call = Write {
+        written: written.len(),
+    };
+    edge::begin(&call, framed(chip, address, option), block, written)
 }
 
+#[tactic(auto, using(crate::proofs::TransferLeaves::write_stepped))]
 pub fn ch32_i2c_write_step(block: &mut [u8], written: &[u8], answer: u16) -> u64
     ensures { LeavesBlock (write_step block.old written.now answer) result block.new }
 {
-    let need = transfer::write_step(block, written.len(), answer);
-    left::number(need, written)
+    let call = Write {
+        written: written.len(),
+    };
+    edge::step(&call, block, written, answer)
 }
 
 pub fn ch32_i2c_read_begin(
@@ -145,27 +139,16 @@ pub fn ch32_i2c_read_begin(
 ) -> u64
     ensures { Leaves (read_begin block.old chip address option read.old) result block.new read.new }
 {
+    let call = Read { room: read.len() };
     let none = [0u8; 0];
-    begin(
-        (3 < chip) | (5 < option),
-        call_of(
-            chip,
-            address,
-            Kind::Read(master_image::frame_options_of(option)),
-        ),
-        block,
-        &none,
-        &none,
-        read,
-    )
+    edge::begin(&call, framed(chip, address, option), block, &none)
 }
 
+#[tactic(auto, using(crate::proofs::TransferLeaves::read_stepped))]
 pub fn ch32_i2c_read_step(block: &mut [u8], read: &mut [u8], answer: u16) -> u64
     ensures { Leaves (read_step block.old read.old answer) result block.new read.new }
 {
-    let stepped = transfer::read_step(block, read.len(), answer);
-    let need = stepped.need;
-    left::keep(stepped.keeps, stepped.place, read, answer);
+    let call = Read { room: read.len() };
     let none = [0u8; 0];
-    left::number(need, &none)
+    edge::step_reading(&call, block, &none, read, answer)
 }

@@ -1,5 +1,5 @@
 // `init`.
-ghost use Rattle.ch32_i2c.specs.Left.{LeavesBlock};
+ghost use Rattle.call.specs.Left.{LeavesBlock};
 ghost use Rattle.ch32_i2c.specs.Init.{init_begin, init_step};
 
 #[unsafe(no_mangle)]

@@ -1,5 +1,5 @@
 // `init_slave`.
-ghost use Rattle.ch32_i2c.specs.Left.{LeavesBlock};
+ghost use Rattle.call.specs.Left.{LeavesBlock};
 ghost use Rattle.ch32_i2c.specs.InitSlave.{init_slave_begin, init_slave_step};
 
 #[unsafe(no_mangle)]

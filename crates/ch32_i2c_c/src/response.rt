@@ -1,5 +1,5 @@
 // Listening, receives and replies.
-ghost use Rattle.ch32_i2c.specs.Left.{LeavesBlock, Leaves};
+ghost use Rattle.call.specs.Left.{LeavesBlock, Leaves};
 ghost use Rattle.ch32_i2c.specs.Response.{listen_begin, listen_step, respond_to_write_begin, respond_to_write_step, respond_to_read_begin, respond_to_read_step};
 
 #[unsafe(no_mangle)]

@@ -1,5 +1,5 @@
 // Transactions, write-reads and frames.
-ghost use Rattle.ch32_i2c.specs.Left.{Leaves, LeavesBlock};
+ghost use Rattle.call.specs.Left.{Leaves, LeavesBlock};
 ghost use Rattle.ch32_i2c.specs.Transfer.{transaction_begin, transaction_step, write_read_begin, write_read_step, write_begin, write_step, read_begin, read_step};
 
 #[unsafe(no_mangle)]

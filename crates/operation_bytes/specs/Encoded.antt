@@ -1,9 +1,8 @@
 -- Operations as the bytes that C lends, three each.
-use Rattle.std.specs.Prelude.{◌≡◌, cond, List, [], ◌∷◌, ◌++◌, ℕ, ◌*◌, ◌/◌, ◌%◌, ltb, length, take}
+use Rattle.std.specs.Prelude.{cond, List, [], ◌∷◌, ◌++◌, ℕ, ◌/◌, ◌%◌, ltb, length, take}
 use Rattle.operations.specs.declared.operation.Direction.{Direction}
 use Rattle.operations.specs.declared.operation.Direction.TheVariants.{Write, Read}
 use Rattle.operations.specs.declared.operation.Operation.{Operation}
-use Rattle.operation_bytes.specs.declared.byte_list.ByteList.{ByteList}
 
 abbrev pub number_of : Direction → ℕ
 number_of Write = 0
@@ -27,11 +26,3 @@ count_of n = cond (ltb 257 n) 257 n
 
 unfoldable pub first257 : List Operation → List Operation
 first257 os = take (count_of (length os)) os
-
-abbrev pub list_of : ByteList → List ℕ
-list_of l = take l.length l.bytes
-
--- the bytes of these operations, and no more
-pub record Encodes (l : ByteList) (os : List Operation) : Type 0 where
-  pub size : l.length ≡ 3 * length os
-  pub bytes : list_of l ≡ encoded os

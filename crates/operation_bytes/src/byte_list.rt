@@ -1,55 +1,56 @@
 // The bytes of operations, three each: of all, or of 257, one more than a transaction has.
-ghost use Rattle.std.specs.Prelude.{◌≡◌, [], ◌++◌, ◌+◌, ◌≤◌};
-ghost use Rattle.operation_bytes.specs.Encoded.{count_of, number_of, bytes_of, list_of, Encodes};
+ghost use Rattle.std.specs.Prelude.{◌≡◌, [], ◌++◌, ◌+◌, ◌≤◌, ℕ, List, length, take};
+ghost use Rattle.operation_bytes.specs.Encoded.{bytes_of};
 
-use operations::{Direction, Operation};
+use operations::Operation;
+use std::marker::Model;
 
-// The list is the first `length` bytes.
-#[derive(Clone, Copy)]
+// A list of bytes in memory of a fixed size. No `ArrayVec`: the library would then rest on the statements of a ported crate.
+#[derive(Drop)]
 pub struct ByteList {
-    pub bytes: [u8; 771],
-    pub length: usize,
+    bytes: [u8; 771],
+    count: usize,
 }
 
-// How many of so many operations are encoded.
-pub fn count(operations: usize) -> usize
-    ensures { result ≡ count_of operations }
-{
-    if 257 < operations { 257 } else { operations }
+impl Model for ByteList {
+    ghost Value = { List ℕ };
+
+    ghost view = { λ l. take l.count l.bytes };
+
+    ghost invariant = { λ l. l.count ≤ 771 };
 }
 
-pub fn none() -> ByteList
-    ensures { Encodes result [] }
+// The direction's number, then the length, low byte first.
+fn bytes_of(operation: Operation) -> [u8; 3]
+    ensures { result ≡ bytes_of operation }
 {
-    ByteList {
-        bytes: [0u8; 771],
-        length: 0,
+    let [low, high] = operation.length.to_le_bytes();
+    [operation.direction as u8, low, high]
+}
+
+impl ByteList {
+    pub fn new() -> Self
+        ensures { result ≡ [] }
+    {
+        ByteList {
+            bytes: [0; 771],
+            count: 0,
+        }
     }
-}
 
-fn direction_number(direction: Direction) -> u8
-    ensures { result ≡ number_of direction }
-{
-    match direction {
-        Direction::Write => 0,
-        Direction::Read => 1,
+    // One operation more.
+    pub fn push(&mut self, operation: Operation)
+        requires { length self.old + 3 ≤ 771 }
+        ensures { self.new ≡ self.old ++ bytes_of operation }
+    {
+        let end = self.count + 3;
+        self.bytes[self.count..end].copy_from_slice(&bytes_of(operation));
+        self.count = end;
     }
-}
 
-// One operation more.
-pub fn with(list: ByteList, operation: Operation) -> ByteList
-    requires { list.length + 3 ≤ 771 }
-    ensures { (result.length ≡ list.length + 3) × (list_of result ≡ list_of list ++ bytes_of operation) }
-{
-    let direction = operation.direction;
-    let length = operation.length;
-    let mut bytes = list.bytes;
-    let at = list.length;
-    bytes[at] = direction_number(direction);
-    bytes[at + 1] = (length % 256) as u8;
-    bytes[at + 2] = (length / 256) as u8;
-    ByteList {
-        bytes,
-        length: at + 3,
+    pub fn as_slice(&self) -> &[u8]
+        ensures { result.now ≡ self.now }
+    {
+        &self.bytes[..self.count]
     }
 }

@@ -9,6 +9,8 @@ use native.Mathlib.Omega.{arith}
 use borrow.Author.Tests.{ltb-true, lt-ltb}
 use lib.Dec.{ltb}
 use lib.ListN.{length, take}
+use lib.Seq.{length-take-le, take-length}
+use Rattle.std.specs.Prelude.{Option, Some, None}
 use Rattle.registers.specs.declared.chip.Chip.{Chip}
 use Rattle.access.specs.declared.ending.Error.{Error}
 use Rattle.access.specs.declared.ending.Error.TheVariants.{InvalidAddress, TooManyOperations, InvalidState}
@@ -27,15 +29,13 @@ use Rattle.master.specs.declared.state.Progress.{Progress}
 use Rattle.master.specs.declared.state.State.{State}
 use Rattle.master.specs.Calls.{lent_with, refuse, refusal_by}
 use Rattle.master.specs.Steps.{fits_lent, need_of}
-use Rattle.images.specs.declared.master_image.MasterFound.{MasterFound}
-use Rattle.images.specs.declared.master_image.MasterFound.TheVariants.{At, Nothing}
 use Rattle.images.specs.Numbers.{transaction_entry}
-use Rattle.calls.specs.OnBlock.{owed_by, moved_by, refused, step_on, begin_on}
+use Rattle.call.specs.OnBlock.{owed_by, moved_by, refused, step_on, begin_on}
 use Rattle.calls.specs.Transfer.{master_held, fitting, moved, transfer_on}
-use Rattle.ch32_i2c.specs.Left.{Left, begin_left}
+use Rattle.call.specs.Left.{Left, begin_left}
 use Rattle.ch32_i2c.specs.Transfer.{call_of, master_begin, master_step, transaction_begin, transaction_step}
 use Rattle.operation_bytes.specs.Encoded.{encoded, first257}
-use Rattle.operation_bytes.proofs.EncodedLaws.{encoded_shaped, encoded_length, taken, take_all}
+use Rattle.operation_bytes.proofs.EncodedLaws.{encoded_shaped, encoded_length}
 
 abbrev state_of : Chip → ℕ → Kind → Stage → Progress → State
 state_of chip address x stage progress = record { call = record { chip = chip; address = address; kind = x }; stage = stage; progress = progress }
@@ -67,7 +67,7 @@ begin_many l m hl hm unknown chip address block written read = rw (causes l hl a
 -- ---- step
 
 -- what a transaction's step leaves of a block in which this is found
-abbrev found_left : List ℕ → MasterFound → List ℕ → List ℕ → List ℕ → ℕ → Left
+abbrev found_left : List ℕ → Option State → List ℕ → List ℕ → List ℕ → ℕ → Left
 found_left l g block written read a =
     let c = transfer_on l (length written) (length read) transaction_entry in
     let o = fitting l (length written) (length read) g in
@@ -80,7 +80,7 @@ left_if fits n to block written read a =
     begin_left written (cond (not (is_end owed)) (cond fits (record { need = need_of to; block = bytes_of (master_fields to) }) (refused InvalidState block)) (refused InvalidState block)) (kept owed a read)
 
 left_if_lem : (l : List ℕ) (s : State) (block written read : List ℕ) (a : ℕ)
-    → found_left l (At s) block written read a ≡ left_if (fits_lent s l (length written) (length read)) (need_of s) (moved l (length written) (length read) s a) block written read a
+    → found_left l (Some s) block written read a ≡ left_if (fits_lent s l (length written) (length read)) (need_of s) (moved l (length written) (length read) s a) block written read a
 left_if_lem l s block written read a = go (fits_lent s l (length written) (length read))
   where
     go : (v : Bool)
@@ -97,20 +97,20 @@ module _ (chip : Chip) (address : ℕ) (stage : Stage) (progress : Progress) whe
   never_fits l h written room = rw (causes l h address written room)
 
   module _ (l m : List ℕ) (hl : Many l) (hm : Many m) (block written read : List ℕ) (a : ℕ) where
-    never_steps : found_left l (At (state_of chip address kind.Transaction stage progress)) block written read a ≡ found_left m (At (state_of chip address kind.Transaction stage progress)) block written read a
+    never_steps : found_left l (Some (state_of chip address kind.Transaction stage progress)) block written read a ≡ found_left m (Some (state_of chip address kind.Transaction stage progress)) block written read a
     never_steps = rw (never_fits l hl (length written) (length read), never_fits m hm (length written) (length read))
 
     -- and other calls are lent no list
-    step_many : (x : Kind) → found_left l (At (state_of chip address x stage progress)) block written read a ≡ found_left m (At (state_of chip address x stage progress)) block written read a
+    step_many : (x : Kind) → found_left l (Some (state_of chip address x stage progress)) block written read a ≡ found_left m (Some (state_of chip address x stage progress)) block written read a
     unfolding fits_lent
     step_many kind.Transaction = never_steps
     step_many kind.WriteRead = left_if_lem l (state_of chip address kind.WriteRead stage progress) block written read a ∙ sym (left_if_lem m (state_of chip address kind.WriteRead stage progress) block written read a)
     step_many (kind.Write f) = left_if_lem l (state_of chip address (kind.Write f) stage progress) block written read a ∙ sym (left_if_lem m (state_of chip address (kind.Write f) stage progress) block written read a)
     step_many (kind.Read f) = left_if_lem l (state_of chip address (kind.Read f) stage progress) block written read a ∙ sym (left_if_lem m (state_of chip address (kind.Read f) stage progress) block written read a)
 
-held_many : (l m : List ℕ) → Many l → Many m → (g : MasterFound) (block written read : List ℕ) (a : ℕ) → found_left l g block written read a ≡ found_left m g block written read a
-held_many l m hl hm (At s) block written read a = step_many s.call.chip s.call.address s.stage s.progress l m hl hm block written read a s.call.kind
-held_many l m hl hm Nothing block written read a = refl
+held_many : (l m : List ℕ) → Many l → Many m → (g : Option State) (block written read : List ℕ) (a : ℕ) → found_left l g block written read a ≡ found_left m g block written read a
+held_many l m hl hm (Some s) block written read a = step_many s.call.chip s.call.address s.stage s.progress l m hl hm block written read a s.call.kind
+held_many l m hl hm None block written read a = refl
 
 -- ---- the first 257 say as much as all
 
@@ -125,9 +125,9 @@ module _ {A : Type 0} (f : List ℕ → A) (alike : (l m : List ℕ) → Many l 
       go : (t : Bool) → ltb 257 (length os) ≡ t → f (encoded (take (cond t 257 (length os)) os)) ≡ f (encoded os)
       go true e =
           let h : 257 < length os = ltb-true 257 (length os) e in
-          let few : length (take 257 os) ≡ 257 = taken os 257 (omega (arith, h)) in
+          let few : length (take 257 os) ≡ 257 = length-take-le 257 os (omega (arith, h)) in
           alike (encoded (take 257 os)) (encoded os) (many_encoded (take 257 os) (omega (arith, few))) (many_encoded os (omega (arith, h)))
-      go false e = ap (λ (x : List Operation). f (encoded x)) (take_all os)
+      go false e = ap (λ (x : List Operation). f (encoded x)) (take-length os)
 
 module _ (block : List ℕ) (os : List Operation) (written read : List ℕ) where
   pub begin_first : (chip address : ℕ) → transaction_begin block chip address (encoded (first257 os)) written read ≡ transaction_begin block chip address (encoded os) written read

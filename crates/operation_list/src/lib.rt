@@ -1,5 +1,4 @@
 // A transaction whose operations are lent as a slice of structs, and not as bytes.
 #![tactic(auto)]
 
-mod listed;
 pub mod transaction;

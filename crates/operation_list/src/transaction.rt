@@ -1,9 +1,9 @@
 // Begin and step of a transaction: what those of C give for the bytes of the operations.
-ghost use Rattle.ch32_i2c.specs.Left.{Leaves};
+ghost use Rattle.call.specs.Left.{Leaves};
 ghost use Rattle.ch32_i2c.specs.Transfer.{transaction_begin, transaction_step};
 ghost use Rattle.operation_bytes.specs.Encoded.{encoded};
 
-use crate::listed;
+use ch32_i2c::transfer;
 use operation_bytes::slice;
 use operations::Operation;
 
@@ -17,14 +17,8 @@ pub fn begin(
 ) -> u64
     ensures { Leaves (transaction_begin block.old chip address (encoded operations.now) written.now read.old) result block.new read.new }
 {
-    listed::begin(
-        block,
-        chip,
-        address,
-        slice::encode(operations),
-        written,
-        read,
-    )
+    let list = slice::encode(operations);
+    transfer::ch32_i2c_transaction_begin(block, chip, address, list.as_slice(), written, read)
 }
 
 pub fn step(
@@ -36,5 +30,6 @@ pub fn step(
 ) -> u64
     ensures { Leaves (transaction_step block.old (encoded operations.now) written.now read.old answer) result block.new read.new }
 {
-    listed::step(block, slice::encode(operations), written, read, answer)
+    let list = slice::encode(operations);
+    transfer::ch32_i2c_transaction_step(block, list.as_slice(), written, read, answer)
 }

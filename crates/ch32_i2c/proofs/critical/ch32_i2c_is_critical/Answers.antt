@@ -1,21 +1,6 @@
 -- `ch32_i2c::critical::ch32_i2c_is_critical` meets its contract.
-use mathlib.Core.Bool.{true, false}
-use Rattle.ch32_i2c.proofs.CriticalLaws.{no_block, told_inside, told_outside}
+use Rattle.ch32_i2c.proofs.CriticalLaws.{no_block}
 use Rattle.ch32_i2c.proofs.critical.ch32_i2c_is_critical.Goals as goal
 
-pub returns-then-block-ne-BLOCK_SIZE : goal.returns-then-block-ne-BLOCK_SIZE
-returns-then-block-ne-BLOCK_SIZE c = no_block _ c.if-block-ne-BLOCK_SIZE.true
-
-pub returns-then-is_call_of-is_done : goal.returns-then-is_call_of-is_done
-returns-then-is_call_of-is_done c =
-    told_inside _ c.if-block-ne-BLOCK_SIZE.false _ _ c.flag_at-reading.ensures c.in_section-section.ensures true c.if-reading-section.true
-    (rw (← c.is_call_of.ensures, ← c.is_done.ensures) c.if-is_call_of-is_done.true)
-
-pub returns-else-is_call_of-is_done : goal.returns-else-is_call_of-is_done
-returns-else-is_call_of-is_done c =
-    told_inside _ c.if-block-ne-BLOCK_SIZE.false _ _ c.flag_at-reading.ensures c.in_section-section.ensures false c.if-reading-section.true
-    (rw (← c.is_call_of.ensures, ← c.is_done.ensures) c.if-is_call_of-is_done.false)
-
-pub returns-else-reading-section : goal.returns-else-reading-section
-returns-else-reading-section c =
-    told_outside _ c.if-block-ne-BLOCK_SIZE.false _ _ c.flag_at-reading.ensures c.in_section-section.ensures c.if-reading-section.false
+pub returns-in_default : goal.returns-in_default
+returns-in_default c = no_block _ c.in_default.ensures.cases

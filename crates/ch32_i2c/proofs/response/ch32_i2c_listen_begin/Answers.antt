@@ -1,8 +1,8 @@
 -- `ch32_i2c::response::ch32_i2c_listen_begin` meets its contract.
 use mathlib.Core.List.{[]}
-use Rattle.ch32_i2c.proofs.LeavesLaws.{block_leaves, begin_leaves}
+use Rattle.slave.specs.declared.state.Kind.TheVariants.{Listen}
+use Rattle.ch32_i2c.proofs.ResponseLeaves.{response_begun}
 use Rattle.ch32_i2c.proofs.response.ch32_i2c_listen_begin.Goals as goal
 
 pub returns : goal.returns
-returns c =
-    block_leaves (begin_leaves [] _ _ _ [] _ c.begin-need.ensures (record { number = c.number.ensures.value; words = c.number.ensures.holds_words }))
+returns c = response_begun [] c.args.block.now 0 c.args.chip Listen _ c.known_chip.ensures c.begin.ensures []

@@ -2,18 +2,18 @@
 use mathlib.Core.Path.{◌∙◌}
 use Rattle.ch32_i2c.proofs.window.ch32_i2c_speed_window.Goals as goal
 
-pub returns-in-At : goal.returns-in-At
-returns-in-At c =
+pub returns-in-Some : goal.returns-in-Some
+returns-in-Some c =
     record {
       answer = c.speed_window-found.result;
       finds = c.speed_window-found.ensures;
-      number = rw c.in-At.is (c.ending_number.ensures.value ∙ rw c.returned_both.ensures);
+      number = rw c.in-Some.is (c.ending_number.ensures.value ∙ rw c.returned_both.ensures);
     }
 
-pub returns-in-Nothing : goal.returns-in-Nothing
-returns-in-Nothing c =
+pub returns-in-None : goal.returns-in-None
+returns-in-None c =
     record {
       answer = c.speed_window-found.result;
       finds = c.speed_window-found.ensures;
-      number = rw c.in-Nothing.is (c.ending_number-in-Nothing.ensures.value ∙ rw c.failed.ensures);
+      number = rw c.in-None.is (c.ending_number-in-None.ensures.value ∙ rw c.failed.ensures);
     }

@@ -1,17 +1,15 @@
 -- `operation_bytes::slice::encode` meets its contract: each turn encodes one operation more.
-use Rattle.std.proofs.Common.{length, arith}
-use Rattle.operation_bytes.proofs.EncodedLaws.{at_most, encodes_more, encodes_first}
+use Rattle.std.proofs.Common.{sym, ◌∙◌}
+use Rattle.operation_bytes.proofs.EncodedLaws.{none_encoded, more_encoded, has_room}
 use Rattle.operation_bytes.proofs.slice.encode.Goals as goal
 
-pub loop-i-preserved : goal.loop-i-preserved
-loop-i-preserved c =
-    let k = c.loop-i.invariant in
-    record {
-      most = omega arith;
-      encodes = encodes_more c.args.operations.now c.loop-i.i c.loop-i.list k.encodes (omega (arith, at_most (length c.args.operations.now))) _ c.operation_at-operation.ensures _ c.with-list.ensures;
-    }
+pub loop-operation-init : goal.loop-operation-init
+loop-operation-init c = c.new-list.ensures ∙ sym none_encoded
 
-pub returns : goal.returns
-returns c =
-    let k = c.loop-i.invariant in
-    encodes_first c.args.operations.now c.loop-i.i c.loop-i.list k.encodes (omega arith)
+pub push-requires : goal.push-requires
+push-requires c =
+    let q = c.first_257-few.ensures in
+    has_room c.args.operations.now c.loop-operation.operation-index _ (rw q at c.loop-operation.invariant) (rw q at c.loop-operation-test.true)
+
+pub loop-operation-preserved : goal.loop-operation-preserved
+loop-operation-preserved c = c.push.ensures ∙ more_encoded c.first_257-few.result.now c.loop-operation.operation-index _ c.loop-operation-test.true c.loop-operation.invariant

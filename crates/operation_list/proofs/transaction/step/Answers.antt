@@ -2,17 +2,14 @@
 use mathlib.Core.Path.{ap, subst, ◌∙◌}
 use mathlib.Core.List.{List}
 use Prim.Native.Nat.{ℕ}
-use Rattle.operation_bytes.proofs.EncodedLaws.{encodes_size}
-use Rattle.ch32_i2c.specs.Left.{Left, Leaves}
+use Rattle.call.specs.Left.{Left, Leaves}
 use Rattle.ch32_i2c.specs.Transfer.{transaction_step}
 use Rattle.operation_list.proofs.ManyLaws.{step_first}
 use Rattle.operation_list.proofs.transaction.step.Goals as goal
 
-pub step-requires : goal.step-requires
-step-requires c = encodes_size c.args.operations.now c.encode.result c.encode.ensures
-
 pub returns : goal.returns
 returns c =
-    subst (λ (h : Left). Leaves h c.step.result c.step.new.block c.step.new.read)
-    (ap (λ (list : List ℕ). transaction_step c.args.block.now list c.args.written.now c.args.read.now c.args.answer) c.encode.ensures.bytes ∙ step_first c.args.block.now c.args.operations.now c.args.written.now c.args.read.now c.args.answer)
-    c.step.ensures
+    let s = c.ch32_i2c_transaction_step in
+    subst (λ (h : Left). Leaves h s.result s.new.block s.new.read)
+    (ap (λ (list : List ℕ). transaction_step c.args.block.now list c.args.written.now c.args.read.now c.args.answer) (c.as_slice.ensures ∙ c.encode-list.ensures) ∙ step_first c.args.block.now c.args.operations.now c.args.written.now c.args.read.now c.args.answer)
+    s.ensures

@@ -1,9 +1,0 @@
--- `calls::init::held` meets its contract.
-use Rattle.calls.proofs.InitLaws.{init_short, init_whole}
-use Rattle.calls.proofs.init.held.Goals as goal
-
-pub returns-then-block-ne-BLOCK_SIZE : goal.returns-then-block-ne-BLOCK_SIZE
-returns-then-block-ne-BLOCK_SIZE c = init_short _ c.if-block-ne-BLOCK_SIZE.true
-
-pub returns : goal.returns
-returns c = init_whole _ _ _ _ c.if-block-ne-BLOCK_SIZE.false c.fields.ensures c.init_in.ensures c.fitting.ensures

@@ -1,7 +1,0 @@
--- `ch32_i2c::transfer::ch32_i2c_transaction_step` meets its contract.
-use Rattle.ch32_i2c.proofs.TransferLeaves.{stepped}
-use Rattle.ch32_i2c.proofs.transfer.ch32_i2c_transaction_step.Goals as goal
-
-pub returns : goal.returns
-returns c =
-    stepped 2 _ _ _ _ _ _ _ _ _ c.transaction_step-stepped.ensures (record { number = c.number.ensures.value; words = c.number.ensures.holds_words }) c.keep.ensures
