@@ -11,6 +11,7 @@ use borrow.Author.Tests.{ltb-true, eqb-true}
 use lib.Dec.{eqb, leb, ltb}
 use lib.ListN.{length, take, set, length-set}
 use lib.Seq.{take-suc-set}
+use Rattle.std.specs.Prelude.{Option, Some, None}
 use Rattle.registers.specs.Word.{field_of}
 use Rattle.registers.specs.Fields.{DATA}
 use Rattle.access.specs.declared.need.Need.{Need}
@@ -23,8 +24,6 @@ use Rattle.access.proofs.Choice.{first_true, second_true, true_same}
 use Rattle.operations.specs.declared.operation.Direction.{Direction}
 use Rattle.operations.specs.declared.operation.Direction.TheVariants as direction
 use Rattle.operations.specs.declared.search.Run.{Run}
-use Rattle.operations.specs.declared.search.FoundRun.{FoundRun}
-use Rattle.operations.specs.declared.search.FoundRun.TheVariants.{At, Nothing}
 use Rattle.operations.specs.Operations.{is_read}
 use Rattle.operations.specs.Runs.{Span, span, written_in, read_in, read_sum, run_from, run_at}
 use Rattle.operations.proofs.FoundLaws.{same_run, not_found}
@@ -94,7 +93,7 @@ Told room need.Drop = ⊥
 Told room (need.End e) = Unit {0}
 
 -- a read run lies within the bytes read
-found_read : (ss : List Span) (w r k : ℕ) (x : Run) → run_from w r ss k ≡ At x → is_read x.direction ≡ true → x.before + x.length ≤ r + read_sum ss
+found_read : (ss : List Span) (w r k : ℕ) (x : Run) → run_from w r ss k ≡ Some x → is_read x.direction ≡ true → x.before + x.length ≤ r + read_sum ss
 unfolding run_from
 found_read [] w r k x e d = absurd (not_found e)
 found_read (s ∷ ss) w r zero x e d =
@@ -106,7 +105,7 @@ found_read (s ∷ ss) w r zero x e d =
 found_read (s ∷ ss) w r (suc k) x e d = omega (arith, found_read ss (w + written_in s) (r + read_in s) k x e d)
 
 -- a byte that is left to read has its place there
-place_lent : (ss : List Span) (k : ℕ) (r : Run) (d : Progress) → run_at ss k ≡ At r → counts r d ≡ true → d.reading ≡ true → 0 < d.left → d.place < read_sum ss
+place_lent : (ss : List Span) (k : ℕ) (r : Run) (d : Progress) → run_at ss k ≡ Some r → counts r d ≡ true → d.reading ≡ true → 0 < d.left → d.place < read_sum ss
 place_lent ss k r d f c e l =
     let p = second_true (beq (is_read r.direction) d.reading) (leb d.left r.length && eqb (d.place + d.left) (r.before + r.length)) c in
     let q = first_true (beq (is_read r.direction) d.reading) (leb d.left r.length && eqb (d.place + d.left) (r.before + r.length)) c in
@@ -115,7 +114,7 @@ place_lent ss k r d f c e l =
 
 module _ (ss : List Span) (g : Setting) where
   -- within a run, while bytes are left to read
-  reading_told : (k : ℕ) (r : Run) (d : Progress) (b : Bool) → run_at ss k ≡ At r → runs r b d ≡ true → (b ≡ true → (d.reading ≡ true) × (0 < d.left)) → d.place < read_sum ss
+  reading_told : (k : ℕ) (r : Run) (d : Progress) (b : Bool) → run_at ss k ≡ Some r → runs r b d ≡ true → (b ≡ true → (d.reading ≡ true) × (0 < d.left)) → d.place < read_sum ss
   reading_told k r d b f e facts =
       let c = first_true (counts r d) (is_done d.ending && b) e in
       let t = second_true (is_done d.ending) b (second_true (counts r d) (is_done d.ending && b) e) in
@@ -137,12 +136,12 @@ module _ (ss : List Span) (g : Setting) where
   Fit k st d = fits_found g (run_at ss k) st d ≡ true
 
   -- the run of a state that fits, where it is in one
-  in_run : (k : ℕ) (st : Stage) (d : Progress) {P : Type 0} → Fit k st d → ((r : Run) → run_at ss k ≡ At r → fits_found g (At r) st d ≡ true → P) → (fits_found g Nothing st d ≡ true → P) → P
+  in_run : (k : ℕ) (st : Stage) (d : Progress) {P : Type 0} → Fit k st d → ((r : Run) → run_at ss k ≡ Some r → fits_found g (Some r) st d ≡ true → P) → (fits_found g None st d ≡ true → P) → P
   in_run k st d {P} e found nothing = go (run_at ss k) refl e
     where
-      go : (f : FoundRun) → run_at ss k ≡ f → fits_found g f st d ≡ true → P
-      go (At r) q e = found r q e
-      go Nothing q e = nothing e
+      go : (f : Option Run) → run_at ss k ≡ f → fits_found g f st d ≡ true → P
+      go (Some r) q e = found r q e
+      go None q e = nothing e
 
   read_told : (k : ℕ) (st : ReadStage) (d : Progress) → Fit k (ReadIter st) d → Told (read_sum ss) (owed_read g.frame.send_nack st d)
   read_told k reading.PosWrite d e = tt

@@ -1,18 +1,18 @@
 -- A transaction that was begun follows a program of layer 1: record, end and bytes read are the program's after every short list of answers.
 -- Each step follows what the program does with the answer.
 -- Assumes nothing.
+use Rattle.access.specs.Endings.{Ending}
 use mathlib.Core.Path.{◌≡◌, sym, ap, ◌∙◌}
 use mathlib.Core.List.{List, [], ◌∷◌}
 use mathlib.Core.Option.{Option, none, some}
 use Prim.Native.Nat.{ℕ, suc, ◌<◌}
 use native.Mathlib.Omega.{arith}
 use lib.ListN.{length, set}
-use Rattle.access.specs.declared.ending.Ending.{Ending}
 use Rattle.access.specs.declared.next.Next.{Next}
 use Rattle.access.specs.declared.next.Next.TheVariants as next
 use Rattle.access.specs.Program.{Access, read, write, send, clock, Program, finish, access, keep, cut}
 use Rattle.access.specs.Record.{shown_of, answer_to}
-use Rattle.ch32_i2c.specs.Left.{Left}
+use Rattle.call.specs.Left.{Left}
 use Rattle.ch32_i2c.specs.Fed.{Entry, lefts_from, last_from, handed_out, Seen, record_of, end_in, next_of, record_in, stored}
 
 -- ---- what a record tells of its first access

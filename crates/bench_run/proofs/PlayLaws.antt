@@ -8,7 +8,7 @@ use native.Mathlib.Omega.{arith}
 use borrow.Author.Tests.{lt-ltb, le-ltb}
 use lib.ListN.{length, get_or, take}
 use Rattle.access.specs.declared.next.Next.{Next}
-use Rattle.ch32_i2c.specs.Left.{Left, left}
+use Rattle.call.specs.Left.{Left, left}
 use Rattle.ch32_i2c.specs.Transfer.{transaction_step}
 use Rattle.bench_text.specs.Puts.{Puts}
 use Rattle.bench_text.proofs.PutLaws.{Leads, leads_from, leads_put, leads_end, leads_same}

@@ -1,5 +1,6 @@
 -- What the bench plays of a call that follows a program is what is seen of the program on the same answers, if there are turns enough.
 -- Assumes nothing.
+use Rattle.access.specs.Endings.{Ending}
 use mathlib.Core.Path.{◌≡◌, refl, sym, ap, ◌∙◌}
 use mathlib.Core.Bool.{Bool, true, false, true≢false}
 use mathlib.Core.List.{List, [], ◌∷◌, ◌++◌, append_assoc}
@@ -9,11 +10,10 @@ use native.Mathlib.Nat.{add_assoc, add-zero}
 use native.Mathlib.Omega.{arith}
 use lib.ListN.{length, get_or, take, drop, set, length-drop}
 use lib.Seq.{get_or-drop, drop-drop}
-use Rattle.access.specs.declared.ending.Ending.{Ending}
 use Rattle.access.specs.declared.next.Next.TheVariants as next
 use Rattle.access.specs.Program.{Access, read, write, send, clock, Program, finish, access, keep, cut}
 use Rattle.access.specs.Record.{Shown, no_more, event, shown_of, answer_to}
-use Rattle.ch32_i2c.specs.Left.{Left}
+use Rattle.call.specs.Left.{Left}
 use Rattle.ch32_i2c.specs.Fed.{Entry, next_of, stored}
 use Rattle.ch32_i2c.specs.Demands.{transaction, entry_of}
 use Rattle.ch32_i2c.specs.Transfer.{transaction_step}

@@ -29,7 +29,7 @@ use Rattle.master.specs.Machine as machine
 use Rattle.master.specs.Calls.{Lent, lent_with, refuse, refusal, shape_of, rust_with, ours_with}
 use Rattle.master.proofs.CallAgrees.{passed_cause, master_is_ours}
 use Rattle.images.specs.Numbers.{chip_of}
-use Rattle.ch32_i2c.specs.Left.{Left, refused_with}
+use Rattle.call.specs.Left.{Left, refused_with}
 use Rattle.ch32_i2c.specs.Fed.{payload_in, record_in}
 use Rattle.ch32_i2c.specs.Transfer.{call_of, transaction_begin}
 use Rattle.ch32_i2c.specs.Demands.{Call, unknown, own_refusal, refusal_of, the_rusts, call_end_as_the_rusts, entry_of, ours, rust, Records}

@@ -5,17 +5,17 @@ use mathlib.Core.List.{List, [], ◌∷◌}
 use Prim.Native.Nat.{ℕ, ◌+◌, ◌*◌, ◌≤◌}
 use native.Mathlib.Omega.{arith}
 use lib.Dec.{eqb, leb}
+use Rattle.std.specs.Prelude.{Option, Some, None}
 use Rattle.registers.specs.Bits.{START, STOP, SB, RXNE, MSL}
 use Rattle.registers.specs.Word.{has_bit}
 use Rattle.registers.specs.Flags.{error_flags}
+use Rattle.access.specs.declared.ending.Failure.{Failure}
 use Rattle.access.specs.declared.need.Need.{Need}
 use Rattle.access.specs.declared.need.Need.TheVariants as need
 use Rattle.access.specs.Program.{late}
 use Rattle.access.specs.Record.{Shown}
 use Rattle.access.specs.Machine.{Machine, seen_owed, seen_answered, shown_from}
 use Rattle.access.proofs.Choice.{chosen}
-use Rattle.errors.specs.declared.Checked.{Checked}
-use Rattle.errors.specs.declared.Checked.TheVariants as checked
 use Rattle.errors.specs.Classes.{error_of, decided}
 use Rattle.operations.specs.declared.search.Run.{Run}
 use Rattle.master.specs.declared.call.Setting.{Setting}
@@ -47,8 +47,6 @@ use Rattle.master.specs.declared.state.Move.{Move}
 use Rattle.master.specs.Machine.{Shape, byte_done, begun, fresh, fails, stops_here, is_set, fallen, finished, write_bytes_move, read_bytes, waited, tests, waits, addressed, address_phase, recv_byte, blocking_read_iter, stopped, launch_start, wait_stop_finished, abort_transfer, advance_at, owed_at, owed, advance, run_of, master, start_with, start}
 use Rattle.operations.specs.Operations.{is_read}
 use Rattle.operations.specs.Runs.{run_at}
-use Rattle.operations.specs.declared.search.FoundRun.{FoundRun}
-use Rattle.operations.specs.declared.search.FoundRun.TheVariants.{At, Nothing}
 use Rattle.bench_run.specs.Layer1.{used_in}
 use Rattle.bench_run.proofs.Counts.{writes_in}
 
@@ -168,9 +166,9 @@ module _ (g : Setting) (r : Run) where
   tests_one : (f : Flag) (d : Progress) (w : ℕ) → AtMost 1 (tests g r f d w)
   tests_one f d w = chosen (AtMost 1) (not (is_set f w)) (λ _. omega arith) (λ _. waited_one f d)
 
-  judged_one : (f : Flag) (d : Progress) (w : ℕ) (c : Checked) → AtMost 1 (decided c (λ x. fails x d) (tests g r f d w))
-  judged_one f d w (checked.Failed x) = omega arith
-  judged_one f d w checked.Fine = tests_one f d w
+  judged_one : (f : Flag) (d : Progress) (w : ℕ) (c : Option Failure) → AtMost 1 (decided c (λ x. fails x d) (tests g r f d w))
+  judged_one f d w (Some x) = omega arith
+  judged_one f d w None = tests_one f d w
 
   fallen_free : (f : Fall) (d : Progress) → AtMost 0 (fallen f d)
   fallen_free fall.Start d = omega arith
@@ -296,9 +294,9 @@ module _ (sh : Shape) (bytes : List ℕ) where
   unfolding owed advance
   machine_pays s a = pays_at sh.setting (run_of sh s.progress.run) s.stage s.progress a
 
-  starts_free : (f : FoundRun) → AtMost 0 (start_with sh.setting f)
-  starts_free (At r) = chosen (AtMost 0) (is_read r.direction || sh.setting.frame.send_start) (λ _. omega arith) (λ _. writes_free sh.setting r (begun r fresh))
-  starts_free Nothing = omega arith
+  starts_free : (f : Option Run) → AtMost 0 (start_with sh.setting f)
+  starts_free (Some r) = chosen (AtMost 0) (is_read r.direction || sh.setting.frame.send_start) (λ _. omega arith) (λ _. writes_free sh.setting r (begun r fresh))
+  starts_free None = omega arith
 
   pub two_writes : (answers : List ℕ) → writes_in (shown_from (master sh) bytes (start sh) answers).events ≤ 2 * used_in (shown_from (master sh) bytes (start sh) answers).events
   two_writes answers = omega (arith, shown_few (master sh) bytes (λ s. paid s.stage) machine_pays (start sh) answers, starts_free (run_at sh.runs 0))

@@ -3,10 +3,9 @@ use Rattle.std.specs.Prelude.{◌≡◌, true, ◌||◌, List, map, ℕ, ◌*◌
 use Rattle.std.proofs.Math.Option.{Option, none, some}
 use Rattle.registers.specs.Word.{field_of}
 use Rattle.registers.specs.Fields.{DATA}
-use Rattle.access.specs.declared.ending.Ending.{Ending}
 use Rattle.access.specs.declared.ending.Error.{Error}
 use Rattle.access.specs.declared.ending.Error.TheVariants.{InvalidAddress, TooManyOperations}
-use Rattle.access.specs.Endings.{error_number, done, failed}
+use Rattle.access.specs.Endings.{Ending, error_number, done, failed}
 use Rattle.access.specs.Program.{Program}
 use Rattle.access.specs.Program as program
 use Rattle.access.specs.Record.{Shown, no_more, shown_of}

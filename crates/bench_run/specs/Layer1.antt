@@ -1,8 +1,7 @@
 -- The text that layer 1 gives: what is to be printed of what is seen of a call.
 use Rattle.std.specs.Prelude.{List, [], ◌∷◌, ◌++◌, map, ℕ, ◌+◌}
 use Rattle.std.proofs.Math.Option.{Option, none, some}
-use Rattle.access.specs.declared.ending.Ending.{Ending}
-use Rattle.access.specs.Endings.{ending_error}
+use Rattle.access.specs.Endings.{Ending, ending_error}
 use Rattle.access.specs.Program.{Access, read, write, send, clock}
 use Rattle.access.specs.Record.{Event, Arrival, Shown}
 use Rattle.ch32_i2c.specs.Fed.{next_of}

@@ -1,12 +1,10 @@
 -- A call played with a list of answers: what is printed.
-use Rattle.std.specs.Prelude.{ℕ, zero, suc, ◌+◌, Bool, true, false, cond, List, [], ◌++◌, ltb, length, get_or, take}
+use Rattle.std.specs.Prelude.{ℕ, zero, suc, ◌+◌, Bool, true, false, cond, List, [], ◌++◌, ltb, length, get_or, take, Ok, Err}
 use Rattle.access.specs.declared.next.Next.{Next}
 use Rattle.access.specs.declared.next.Next.TheVariants.{Read, Write, Clock, End}
-use Rattle.access.specs.declared.ending.Ending.{Ending}
-use Rattle.access.specs.declared.ending.Ending.TheVariants.{Done, Failed}
-use Rattle.access.specs.Endings.{ending_error}
+use Rattle.access.specs.Endings.{Ending, ending_error}
 use Rattle.access.specs.Record.{is_data}
-use Rattle.ch32_i2c.specs.Left.{Left}
+use Rattle.call.specs.Left.{Left}
 use Rattle.ch32_i2c.specs.Transfer.{transaction_step}
 use Rattle.bench_text.specs.Shown.{read_text, write_text, clock_text, arrived_text, end_text, open_text}
 
@@ -38,8 +36,8 @@ access_text (End e) a = []
 
 -- the flags of an error
 abbrev pub flags_of : Ending → ℕ
-flags_of (Done o) = 0
-flags_of (Failed f) = f.flags
+flags_of (Ok o) = 0
+flags_of (Err f) = f.flags
 
 -- a call that has not ended is open
 abbrev pub ending_text : Next → ℕ → List ℕ

@@ -5,9 +5,10 @@ ghost use Rattle.bench_text.specs.Input.{input_of};
 ghost use Rattle.bench_run.specs.Printed.{printed_of};
 
 use crate::play;
-use bench_text::{Parsed, input, shown};
+use bench_text::{input, shown};
 
 // Puts the text for an input at the start of `out`, and answers how long it is. The other buffers are room to work in.
+// They are lent, since this cannot fail, as a `String` or a `Vec` can.
 pub fn answer(
     text: &[u8],
     list: &mut [u8],
@@ -25,16 +26,18 @@ pub fn answer(
     ensures upper_bound { result ≤ length out.old }
 {
     match input::parse(text, list, written, answers) {
-        Parsed::Bad(line) => shown::put_bad(out, 0, line),
-        Parsed::Call(chip, address, parts) => {
+        Err(line) => shown::put_bad(out, 0, line.number),
+        Ok(call) => {
+            let header = call.header;
+            let parts = call.parts;
             let listed = parts.listed;
             let sent = parts.written;
             let room = parts.room as usize;
             let given = parts.answers;
             let mut block = [0u8; 32];
             play::play(
-                chip,
-                address,
+                header.chip,
+                header.address,
                 &mut block,
                 &list[..listed],
                 &written[..sent],

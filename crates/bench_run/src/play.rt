@@ -2,7 +2,7 @@
 ghost use Rattle.std.specs.Prelude.{◌≡◌, ◌+◌, ◌≤◌, length, get_or, take};
 ghost use Rattle.access.specs.Record.{is_data};
 ghost use Rattle.bench_text.specs.Puts.{Puts};
-ghost use Rattle.ch32_i2c.specs.Left.{left};
+ghost use Rattle.call.specs.Left.{left};
 ghost use Rattle.ch32_i2c.specs.Transfer.{transaction_begin};
 ghost use Rattle.bench_run.specs.Play.{asked, arriving, is_end, access_text, flags_of, ending_text, finish_text, play_from, most_turns};
 
@@ -30,17 +30,7 @@ fn asked(next: Next) -> usize
 fn is_data(register: Register) -> bool
     ensures { result ≡ is_data register }
 {
-    match register {
-        Register::Ctlr1 => false,
-        Register::Ctlr2 => false,
-        Register::Oaddr1 => false,
-        Register::Oaddr2 => false,
-        Register::Datar => true,
-        Register::Star1 => false,
-        Register::Star2 => false,
-        Register::Ckcfgr => false,
-        Register::Rtr => false,
-    }
+    matches!(register, Register::Datar)
 }
 
 // How many bytes arrive with an access.
@@ -49,29 +39,22 @@ fn arriving(next: Next) -> usize
     ensures upper_bound { result ≤ 1 }
 {
     match next {
-        Next::Read(register) => if is_data(register) { 1 } else { 0 },
-        Next::Write(_, _) => 0,
-        Next::Clock => 0,
-        Next::End(_) => 0,
+        Next::Read(register) => usize::from(is_data(register)),
+        _ => 0,
     }
 }
 
 fn is_end(next: Next) -> bool
     ensures { result ≡ is_end next }
 {
-    match next {
-        Next::Read(_) => false,
-        Next::Write(_, _) => false,
-        Next::Clock => false,
-        Next::End(_) => true,
-    }
+    matches!(next, Next::End(_))
 }
 
 // The answer at a place, and 0 past the end.
 fn answer_at(answers: &[u16], at: usize) -> u16
     ensures { result ≡ get_or answers.now at 0 }
 {
-    if at < answers.len() { answers[at] } else { 0 }
+    answers.get(at).copied().unwrap_or(0)
 }
 
 fn put_access(out: &mut [u8], at: usize, next: Next, answer: u16) -> usize
@@ -92,8 +75,8 @@ fn flags_of(ending: Ending) -> u16
     ensures { result ≡ flags_of ending }
 {
     match ending {
-        Ending::Done(_) => 0,
-        Ending::Failed(failure) => failure.flags,
+        Ok(_) => 0,
+        Err(failure) => failure.flags,
     }
 }
 
@@ -130,10 +113,7 @@ fn finish(out: &mut [u8], at: usize, next: Next, read: &[u8], arrived: usize, us
     ensures puts { Puts out.old at (finish_text next (take arrived read.now) used) result out.new }
     ensures upper_bound { result ≤ length out.old }
 {
-    if arrived < read.len() {
-        return put_last(out, at, next, &read[..arrived], used as u32);
-    }
-    put_last(out, at, next, read, used as u32)
+    put_last(out, at, next, &read[..arrived.min(read.len())], used as u32)
 }
 
 fn go(
@@ -154,8 +134,7 @@ fn go(
     let mut used: usize = 0;
     let mut arrived: usize = 0;
     let mut at: usize = 0;
-    let mut turns = TURNS;
-    while 0 < turns {
+    for _turn in 0..TURNS {
         if is_end(next) {
             return finish(out, at, next, read, arrived, used);
         }
@@ -168,7 +147,6 @@ fn go(
         used += taken;
         arrived += arriving(next);
         next = turn::step(block, list, written, read, answer);
-        turns -= 1;
     }
     finish(out, at, next, read, arrived, used)
 }

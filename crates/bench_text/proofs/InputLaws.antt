@@ -1,6 +1,6 @@
 -- From line to line: what the lines that are left say leads to what the whole input says.
 -- Assumes nothing.
-use Prim.Native.Nat.{ℕ, suc, ◌+◌, ◌-◌, ◌≤◌, ◌<◌}
+use Prim.Native.Nat.{ℕ, suc, ◌+◌, ◌≤◌, ◌<◌}
 use mathlib.Core.Path.{◌≡◌, refl, sym, ap, ◌∙◌}
 use mathlib.Core.Bool.{Bool, true, false, cond}
 use mathlib.Core.List.{List, [], ◌∷◌, ◌++◌, append_assoc, append-nil}
@@ -9,11 +9,11 @@ use native.Mathlib.Nat.{zero-add}
 use native.Mathlib.Omega.{arith}
 use borrow.Author.Tests.{lt-ltb, le-ltb}
 use lib.Dec.{eqb, ltb}
-use lib.ListN.{length, take, drop, length-append, length-drop, length-take, drop_of_length-le}
-use lib.Seq.{sets, drop-drop, length-sets}
-use Rattle.bench_text.specs.declared.line.Header.TheVariants as header
+use lib.ListN.{length, take, drop, length-append, length-drop, length-take}
+use lib.Seq.{sets, length-sets}
+use Rattle.std.specs.Prelude as rust
+use Rattle.bench_text.specs.declared.line.Header.{Header}
 use Rattle.bench_text.specs.declared.input.Parts.{Parts}
-use Rattle.bench_text.specs.declared.input.Taken.TheVariants as taken
 use Rattle.bench_text.specs.Lines.{line_length, lines_from, lines_of}
 use Rattle.bench_text.specs.Forms.{header_of, is_header}
 use Rattle.bench_text.specs.Input.{Line, bad, writes, reads, answers, line_of, operation_bytes, Said, said_nothing, said_with, Input, bad_line, call, with_line, input_from, input_behind, input_in, input_of}
@@ -43,34 +43,44 @@ line_positive (x ∷ l) h = go (eqb x 10)
     go true = omega arith
     go false = omega arith
 
-module _ (text : List ℕ) (at end : ℕ) (h : at < length text) (e : end ≡ at + line_length (drop at text)) where
-  pub goes_ahead : at < end
-  goes_ahead = omega (arith, e, line_positive (drop at text) (omega (arith, length-drop at text)))
+-- a text's first line, and what stands behind it
+pub record First (text line behind : List ℕ) : Type 0 where
+  pub lines : lines_of text ≡ line ∷ lines_of behind
+  pub whole : length line + length behind ≡ length text
+  pub positive : 0 < length line
 
-  pub next_line : lines_of (drop at text) ≡ take (end - at) (drop at text) ∷ lines_of (drop end text)
-  next_line =
-      let k : end - at ≡ line_length (drop at text) = omega arith in
-      first_line [] (drop at text) (omega (arith, length-drop at text))
-      ∙ rw (k, e, drop-drop (line_length (drop at text)) at text)
-
--- the header's line
-pub input_first : (text : List ℕ) → input_in (lines_of text) ≡ input_behind (header_of (take (line_length text) text)) (lines_of (drop (line_length text) text))
+header_first : (text : List ℕ) → input_in (lines_of text) ≡ input_behind (header_of (take (line_length text) text)) (lines_of (drop (line_length text) text))
 unfolding lines_from line_length header_of is_header
-input_first [] = refl
-input_first (x ∷ l) = rw (first_line [] (x ∷ l) (omega arith))
+header_first [] = refl
+header_first (x ∷ l) = rw (first_line [] (x ∷ l) (omega arith))
+
+module _ (text : List ℕ) {line behind : List ℕ} {end : ℕ} (e : end ≡ line_length text) (l : line ≡ take end text) (b : behind ≡ drop end text) where
+  pub first_of : 0 < length text → end ≤ length text → First text line behind
+  first_of h inside =
+      let long : length line ≡ end = omega (arith, ap length l, length-take end text) in
+      let rest : length behind + end ≡ length text = omega (arith, ap length b, length-drop end text) in
+      record {
+        lines = rw (l, b, e) (first_line [] text (omega arith));
+        whole = omega arith;
+        positive = omega (arith, line_positive text h);
+      }
+
+  -- the header's line
+  pub input_first : input_in (lines_of text) ≡ input_behind (header_of line) (lines_of behind)
+  input_first = rw (l, b, e) (header_first text)
 
 -- ---- what a line adds
 
 module _ (list₀ written₀ words₀ : List ℕ) where
   -- the code's numbers and buffers follow what is said
   pub record Follows (s : Said) (l : Line) (t : Said) : Type 0 where
-    pub parts : taken_with (parts_of s) l ≡ taken.Good (parts_of t)
+    pub parts : taken_with (parts_of s) l ≡ rust.Some (parts_of t)
     pub list : list_with (parts_of s) l (sets list₀ 0 s.list) ≡ sets list₀ 0 t.list
     pub written : written_with (parts_of s) l (sets written₀ 0 s.written) ≡ sets written₀ 0 t.written
     pub words : answers_with (parts_of s) l (sets words₀ 0 s.answers) ≡ sets words₀ 0 t.answers
 
   abbrev Fate : Said → Line → Option Said → Type 0
-  Fate s l none = taken_with (parts_of s) l ≡ taken.Bad
+  Fate s l none = taken_with (parts_of s) l ≡ rust.None
   Fate s l (some t) = Follows s l t
 
   behind : (b xs ys : List ℕ) → sets (sets b 0 xs) (length xs) ys ≡ sets b 0 (xs ++ ys)
@@ -122,34 +132,32 @@ module _ (list₀ written₀ words₀ : List ℕ) where
 
 -- ---- from line to line
 
-module _ (text : List ℕ) (from chip address : ℕ) (list₀ written₀ words₀ : List ℕ) where
+module _ (text : List ℕ) (chip address : ℕ) (list₀ written₀ words₀ : List ℕ) where
   abbrev whole : Input
-  whole = input_from chip address 1 said_nothing (lines_of (drop from text))
+  whole = input_from chip address 1 said_nothing (lines_of text)
 
-  -- behind some lines, at a place of the text
-  pub record Between (list written words : List ℕ) (at number : ℕ) (p : Parts) : Type 0 where
+  -- behind some lines, with what is left of the text
+  pub record Between (list written words left : List ℕ) (number : ℕ) (p : Parts) : Type 0 where
     pub said : Said
     pub parts : p ≡ parts_of said
     pub in_list : list ≡ sets list₀ 0 said.list
     pub in_written : written ≡ sets written₀ 0 said.written
     pub in_words : words ≡ sets words₀ 0 said.answers
-    pub rest : input_from chip address number said (lines_of (drop at text)) ≡ whole
-    pub inside : at ≤ length text
-    pub listed : p.listed ≤ at
-    pub sent : p.written ≤ at
+    pub rest : input_from chip address number said (lines_of left) ≡ whole
+    pub listed : p.listed + length left ≤ length text
+    pub sent : p.written + length left ≤ length text
     pub room : p.room ≤ 65535
     pub given : p.answers ≤ 4096
-    pub counted : number ≤ at + 1
+    pub counted : number + length left ≤ length text + 1
 
-  pub at_start : from ≤ length text → Between list₀ written₀ words₀ from 1 (parts_of said_nothing)
-  at_start h = record {
+  pub at_start : Between list₀ written₀ words₀ text 1 (parts_of said_nothing)
+  at_start = record {
     said = said_nothing;
     parts = refl;
     in_list = refl;
     in_written = refl;
     in_words = refl;
     rest = refl;
-    inside = h;
     listed = omega arith;
     sent = omega arith;
     room = omega arith;
@@ -157,7 +165,7 @@ module _ (text : List ℕ) (from chip address : ℕ) (list₀ written₀ words�
     counted = omega arith;
   }
 
-  module _ {list written words : List ℕ} {at number : ℕ} {p : Parts} (b : Between list written words at number p) where
+  module _ {list written words left : List ℕ} {number : ℕ} {p : Parts} (b : Between list written words left number p) where
     pub kept_list : length list ≡ length list₀
     kept_list = ap length b.in_list ∙ length-sets list₀ 0 b.said.list
 
@@ -167,43 +175,41 @@ module _ (text : List ℕ) (from chip address : ℕ) (list₀ written₀ words�
     pub kept_words : length words ≡ length words₀
     kept_words = ap length b.in_words ∙ length-sets words₀ 0 b.said.answers
 
-    pub all_said : length text ≤ at → call chip address b.said ≡ whole
+    pub all_said : length left ≡ 0 → call chip address b.said ≡ whole
     unfolding input_from lines_from
-    all_said h = rw (drop_of_length-le text h) at b.rest
+    all_said h = go left h b.rest
+      where
+        go : (l : List ℕ) → length l ≡ 0 → input_from chip address number b.said (lines_of l) ≡ whole → call chip address b.said ≡ whole
+        go [] h e = e
+        go (x ∷ l) h e = absurd (omega arith)
 
-    module _ (end : ℕ) (h : at < length text) (e : end ≡ at + line_length (drop at text)) (inside : end ≤ length text) where
-      abbrev line : List ℕ
-      line = take (end - at) (drop at text)
-
-      long : length line ≡ end - at
-      long = length-take (end - at) (drop at text) ∙ omega (arith, length-drop at text)
-
+    module _ {line behind : List ℕ} (first : First left line behind) where
       pub has_room : length text ≤ 65536 → Room p line
       has_room q = record {
-        listed = omega (arith, long, b.listed, goes_ahead text at end h e);
-        written = omega (arith, long, b.sent, goes_ahead text at end h e);
+        listed = omega (arith, first.whole, b.listed);
+        written = omega (arith, first.whole, b.sent);
         room = b.room;
         answers = b.given;
       }
 
-      next : with_line (said_with b.said (line_of line)) (number + 1) (λ (t : Said). input_from chip address (number + 1) t (lines_of (drop end text))) ≡ whole
+      next : with_line (said_with b.said (line_of line)) (number + 1) (λ (t : Said). input_from chip address (number + 1) t (lines_of behind)) ≡ whole
       unfolding input_from
-      next = rw (next_line text at end h e) at b.rest
+      next = rw first.lines at b.rest
 
-      pub bad_line_lem : taken_with p (line_of line) ≡ taken.Bad → whole ≡ bad_line (number + 1)
+      pub bad_line_lem : taken_with p (line_of line) ≡ rust.None → whole ≡ bad_line (number + 1)
       bad_line_lem q = go (said_with b.said (line_of line)) (fate list₀ written₀ words₀ b.said (line_of line)) next
         where
-          go : (o : Option Said) → Fate list₀ written₀ words₀ b.said (line_of line) o → with_line o (number + 1) (λ (t : Said). input_from chip address (number + 1) t (lines_of (drop end text))) ≡ whole
+          go : (o : Option Said) → Fate list₀ written₀ words₀ b.said (line_of line) o → with_line o (number + 1) (λ (t : Said). input_from chip address (number + 1) t (lines_of behind)) ≡ whole
               → whole ≡ bad_line (number + 1)
           go none f n = sym n
           go (some t) f n = let z : ◌≡◌ {A = ℕ} 0 1 = cc (ap (λ (k : Parts). taken_with k (line_of line)) b.parts, f.parts) in absurd (omega arith)
 
-      pub good_line : {list' written' words' : List ℕ} {q : Parts} → taken_with p (line_of line) ≡ taken.Good q → list' ≡ list_with p (line_of line) list → written' ≡ written_with p (line_of line) written
-          → words' ≡ answers_with p (line_of line) words → Grows p (length line) (taken.Good q) → Between list' written' words' end (number + 1) q
+      pub good_line : {list' written' words' : List ℕ} {q : Parts} → taken_with p (line_of line) ≡ rust.Some q → list' ≡ list_with p (line_of line) list → written' ≡ written_with p (line_of line) written
+          → words' ≡ answers_with p (line_of line) words → Grows p (length line) (rust.Some q) → Between list' written' words' behind (number + 1) q
       good_line {list'} {written'} {words'} {q} g l w a grows = go (said_with b.said (line_of line)) (fate list₀ written₀ words₀ b.said (line_of line)) next
         where
-          go : (o : Option Said) → Fate list₀ written₀ words₀ b.said (line_of line) o → with_line o (number + 1) (λ (t : Said). input_from chip address (number + 1) t (lines_of (drop end text))) ≡ whole
-              → Between list' written' words' end (number + 1) q
+          go : (o : Option Said) → Fate list₀ written₀ words₀ b.said (line_of line) o → with_line o (number + 1) (λ (t : Said). input_from chip address (number + 1) t (lines_of behind)) ≡ whole
+              → Between list' written' words' behind (number + 1) q
           go none f n = let z : ◌≡◌ {A = ℕ} 0 1 = cc (ap (λ (k : Parts). taken_with k (line_of line)) b.parts, f) in absurd (omega arith)
           go (some t) f n = record {
             said = t;
@@ -212,12 +218,11 @@ module _ (text : List ℕ) (from chip address : ℕ) (list₀ written₀ words�
             in_written = w ∙ rw (b.parts, b.in_written) f.written;
             in_words = a ∙ rw (b.parts, b.in_words) f.words;
             rest = n;
-            inside = inside;
-            listed = omega (arith, long, grows.0, b.listed, goes_ahead text at end h e);
-            sent = omega (arith, long, grows.1, b.sent, goes_ahead text at end h e);
+            listed = omega (arith, first.whole, grows.0, b.listed);
+            sent = omega (arith, first.whole, grows.1, b.sent);
             room = grows.2;
             given = grows.3;
-            counted = omega (arith, b.counted, goes_ahead text at end h e);
+            counted = omega (arith, first.whole, first.positive, b.counted);
           }
 
 -- ---- the whole input
@@ -227,16 +232,13 @@ module _ (text : List ℕ) where
   unfolding input_of
   too_long h = rw (lt-ltb 65536 (length text) h)
 
-  module _ (end : ℕ) (short : length text ≤ 65536) (e : end ≡ 0 + line_length (drop 0 text)) where
-    by_header : input_of text ≡ input_behind (header_of (take (end - 0) (drop 0 text))) (lines_of (drop end text))
+  module _ (line behind : List ℕ) (short : length text ≤ 65536) (first : input_in (lines_of text) ≡ input_behind (header_of line) (lines_of behind)) where
+    by_header : input_of text ≡ input_behind (header_of line) (lines_of behind)
     unfolding input_of
-    by_header =
-        let a : end - 0 ≡ line_length text = omega arith in
-        let b : end ≡ line_length text = omega arith in
-        rw (le-ltb 65536 (length text) short, a, b) (input_first text)
+    by_header = rw (le-ltb 65536 (length text) short) first
 
-    pub header_bad : header_of (take (end - 0) (drop 0 text)) ≡ header.Bad → input_of text ≡ bad_line 1
+    pub header_bad : header_of line ≡ rust.None → input_of text ≡ bad_line 1
     header_bad q = by_header ∙ rw q
 
-    pub header_good : {chip address : ℕ} → header_of (take (end - 0) (drop 0 text)) ≡ header.Call chip address → input_of text ≡ input_from chip address 1 said_nothing (lines_of (drop end text))
+    pub header_good : {h : Header} → header_of line ≡ rust.Some h → input_of text ≡ input_from h.chip h.address 1 said_nothing (lines_of behind)
     header_good q = by_header ∙ rw q

@@ -1,13 +1,15 @@
 -- Texts put one behind the other.
 -- Assumes nothing.
-use Prim.Native.Nat.{ℕ, suc, ◌+◌, ◌≤◌, ◌<◌}
-use mathlib.Core.Path.{◌≡◌, refl, ap, ◌∙◌}
-use mathlib.Core.List.{List, [], ◌∷◌, ◌++◌}
+use Prim.Native.Nat.{ℕ, suc, ◌+◌, ◌-◌, ◌≤◌, ◌<◌}
+use mathlib.Core.Path.{◌≡◌, refl, sym, ap, ◌∙◌}
+use borrow.Rule.Slice.PartMut.{put_mid}
+use Rattle.std.proofs.lemmas.List.Edits.{sets-eq}
+use mathlib.Core.List.{List, [], ◌∷◌, ◌++◌, append_assoc, map}
 use native.Mathlib.Nat.{add-zero}
 use native.Mathlib.Numerals.{add-one}
 use native.Mathlib.Omega.{arith}
-use lib.ListN.{length, get_or, drop, set, length-append, drop_of_length-le}
-use lib.Seq.{sets, drop-cons}
+use lib.ListN.{length, get_or, take, drop, set, length-append, drop_of_length-le}
+use lib.Seq.{sets, drop-cons, drop-drop}
 use Rattle.bench_text.specs.Digits.{pair_text, hex_text}
 use Rattle.bench_text.specs.Puts.{Puts}
 
@@ -33,10 +35,6 @@ pub leads_from : (out : List ℕ) (at : ℕ) (all : List ℕ) → Leads out at a
 leads_from out at all = record { place = refl; holds = refl }
 
 module _ {out : List ℕ} {at : ℕ} {out₀ : List ℕ} {at₀ : ℕ} {all : List ℕ} where
-  -- one element is stored
-  pub leads_set : (x : ℕ) (rest : List ℕ) → Leads out at (x ∷ rest) out₀ at₀ all → Leads (set out at x) (at + 1) rest out₀ at₀ all
-  leads_set x rest g = record { place = omega (arith, g.place); holds = ap (λ (k : ℕ). sets (set out at x) k rest) (add-one at) ∙ g.holds }
-
   -- a text is put
   pub leads_put : {out' : List ℕ} {m : ℕ} (xs rest : List ℕ) → Leads out at (xs ++ rest) out₀ at₀ all → Puts out at xs m out' → Leads out' m rest out₀ at₀ all
   leads_put {out'} {m} xs rest g p = record {
@@ -51,32 +49,17 @@ module _ {out : List ℕ} {at : ℕ} {out₀ : List ℕ} {at₀ : ℕ} {all : Li
   pub leads_same : {rest rest' : List ℕ} → rest ≡ rest' → Leads out at rest out₀ at₀ all → Leads out at rest' out₀ at₀ all
   leads_same e g = rw (← e) g
 
--- a text is put byte by byte
-pub put_starts : (out : List ℕ) (at : ℕ) (bytes : List ℕ) → Leads out (at + 0) (drop 0 bytes) out at bytes
-put_starts out at bytes = rw (add-zero at) (leads_from out at bytes)
+-- a text is copied
+pub copied : (out new bytes : List ℕ) (at : ℕ) → at + length bytes ≤ length out → new ≡ bytes → Puts out at bytes (at + length bytes) (put_mid at (at + length bytes - at) out new)
+copied out new bytes at h e =
+    let k : at + length bytes - at ≡ length bytes = omega arith in
+    record { place = refl; holds = rw (e, k, drop-drop (length bytes) at out) (sym (append_assoc (take at out) bytes (drop (at + length bytes) out)) ∙ sym (sets-eq bytes out at h)) }
 
-module _ {out out₀ : List ℕ} (at : ℕ) (bytes : List ℕ) (i : ℕ) where
-  pub put_goes_on : i < length bytes → Leads out (at + i) (drop i bytes) out₀ at bytes → Leads (set out (at + i) (get_or bytes i 0)) (at + (i + 1)) (drop (i + 1) bytes) out₀ at bytes
-  put_goes_on h g =
-      let e : at + (i + 1) ≡ at + i + 1 = omega arith in
-      rw (e, add-one i) (leads_set (get_or bytes i 0) (drop (suc i) bytes) (leads_same (drop-cons bytes i 0 h) g))
-
-  pub put_over : length bytes ≤ i → Leads out (at + i) (drop i bytes) out₀ at bytes → Puts out₀ at bytes (at + i) out
-  put_over h g = leads_end (leads_same (drop_of_length-le bytes h) g)
-
--- elements are stored one by one, as many as are counted
-pub stored_starts : (out : List ℕ) (to : ℕ) (all : List ℕ) → Leads out (to + 0) all out to all
-stored_starts out to all = rw (add-zero to) (leads_from out to all)
-
-module _ {out out₀ all : List ℕ} (to count : ℕ) where
-  pub stored_more : {out' rest : List ℕ} {x y : ℕ} (rest' : List ℕ) → Leads out (to + count) rest out₀ to all → rest ≡ x ∷ rest' → out' ≡ set out (to + count) y → y ≡ x
-      → Leads out' (to + (count + 1)) rest' out₀ to all
-  stored_more {out'} {rest} {x} {y} rest' g e s v =
-      let k : to + (count + 1) ≡ to + count + 1 = omega arith in
-      rw (k, s, v) (leads_set x rest' (leads_same e g))
-
-  pub stored_all : {rest : List ℕ} → Leads out (to + count) rest out₀ to all → rest ≡ [] → (count ≡ length all) × (out ≡ sets out₀ to all)
-  stored_all g e = let p = leads_end (leads_same e g) in (omega (arith, p.place), p.holds)
+-- the values of items, one by one
+pub each_all : {A : Type 0} (value : A → ℕ) (items : List A) {out out₀ all : List ℕ} (to i : ℕ) → length items ≤ i → Leads out (to + i) (map value (drop i items)) out₀ to all → (i ≡ length all) × (out ≡ sets out₀ to all)
+each_all value items to i h g =
+    let p = leads_end (leads_same (rw (drop_of_length-le items h)) g) in
+    (omega (arith, p.place), p.holds)
 
 -- bytes are put as hex pairs
 module _ {out out₀ all : List ℕ} {place at₀ : ℕ} (bytes : List ℕ) (i : ℕ) where

@@ -1,19 +1,20 @@
 -- What holds of an input's call, line by line: what each line keeps holds of what all say. So its numbers are within their bounds.
 -- Assumes nothing.
-use Prim.Native.Nat.{ℕ, ◌+◌, ◌-◌, ◌≤◌}
+use Prim.Native.Nat.{ℕ, ◌+◌, ◌-◌, ◌*◌, ◌≤◌}
 use mathlib.Core.Path.{◌≡◌, refl}
 use mathlib.Core.Bool.{Bool, true, false, cond}
 use mathlib.Core.List.{List, [], ◌∷◌, ◌++◌}
 use mathlib.Core.Option.{Option, none, some}
 use native.Mathlib.Omega.{arith}
-use borrow.Author.Tests.{ltb-false}
+use borrow.Author.Tests.{ltb-true, ltb-false}
 use lib.Dec.{eqb, ltb}
 use lib.ListN.{length, get_or, drop, length-append, length-drop}
+use Rattle.std.specs.Prelude as rust
 use Rattle.bench_text.specs.declared.line.Header.{Header}
-use Rattle.bench_text.specs.Digits.{pair_of}
+use Rattle.bench_text.specs.Digits.{digit_of, pair_of, word_of}
 use Rattle.bench_text.specs.Lines.{lines_from, lines_of}
 use Rattle.bench_text.specs.Forms.{pairs_then_end, bytes_of, words_then_end, is_header, header_of, read_length_of}
-use Rattle.bench_text.specs.Input.{Line, bad, writes, reads, answers, writes_in, reads_in, answers_in, line_of, room_with, Said, said_nothing, said_with, Input, bad_line, call, with_line, input_from, input_behind, input_in, input_of}
+use Rattle.bench_text.specs.Input.{Line, bad, writes, reads, answers, writes_in, read_line, reads_in, answers_in, line_of, room_with, Said, said_nothing, said_with, Input, bad_line, call, with_line, input_from, input_behind, input_in, input_of}
 
 -- what holds on both sides of a choice holds of it
 either : {A : Type 0} (P : A → Type 0) (b : Bool) {x y : A} → (b ≡ true → P x) → (b ≡ false → P y) → P (cond b x y)
@@ -48,6 +49,39 @@ few_bytes [] = omega arith
 few_bytes (a ∷ []) = omega arith
 few_bytes (a ∷ b ∷ l) = omega (arith, few_bytes l)
 
+digit_small : (b : ℕ) → rust.IfSome (digit_of b) (λ d. d ≤ 15)
+unfolding digit_of
+digit_small b = let Q : rust.Option ℕ → Type 0 = (λ o. rust.IfSome o (λ d. d ≤ 15)) in
+    either Q (ltb b 48) (λ _. tt) (λ _. either Q (ltb b 58) (λ e. omega (arith, ltb-true b 58 e)) (λ _. either Q (ltb b 97) (λ _. tt) (λ _. either Q (ltb b 103) (λ e. omega (arith, ltb-true b 103 e)) (λ _. tt))))
+
+pair_small : (a b : ℕ) → rust.IfSome (pair_of a b) (λ n. n ≤ 255)
+unfolding pair_of
+pair_small a b = go (digit_of a) (digit_of b) (digit_small a) (digit_small b)
+  where
+    go : (h l : rust.Option ℕ) → rust.IfSome h (λ d. d ≤ 15) → rust.IfSome l (λ d. d ≤ 15) → rust.IfSome (rust.option_and_then (λ x. rust.option_map (λ y. x * 16 + y) l) h) (λ n. n ≤ 255)
+    go rust.None l p q = tt
+    go (rust.Some x) rust.None p q = tt
+    go (rust.Some x) (rust.Some y) p q = omega arith
+
+word_small : (a b c d : ℕ) → rust.IfSome (word_of a b c d) (λ n. n ≤ 65535)
+unfolding word_of
+word_small a b c d = go (pair_of a b) (pair_of c d) (pair_small a b) (pair_small c d)
+  where
+    go : (h l : rust.Option ℕ) → rust.IfSome h (λ n. n ≤ 255) → rust.IfSome l (λ n. n ≤ 255) → rust.IfSome (rust.option_and_then (λ x. rust.option_map (λ y. x * 256 + y) l) h) (λ n. n ≤ 65535)
+    go rust.None l p q = tt
+    go (rust.Some x) rust.None p q = tt
+    go (rust.Some x) (rust.Some y) p q = omega arith
+
+read_small : (l : List ℕ) → Small (read_line (read_length_of l))
+unfolding read_length_of
+read_small l =
+    let Q : rust.Option ℕ → Type 0 = (λ o. Small (read_line o)) in
+    either Q (eqb (length l) 7) (λ _. either Q (eqb (get_or l 6 0) 10) (λ _. go (word_of (get_or l 2 0) (get_or l 3 0) (get_or l 4 0) (get_or l 5 0)) (word_small (get_or l 2 0) (get_or l 3 0) (get_or l 4 0) (get_or l 5 0))) (λ _. tt)) (λ _. tt)
+  where
+    go : (o : rust.Option ℕ) → rust.IfSome o (λ n. n ≤ 65535) → Small (read_line o)
+    go rust.None h = tt
+    go (rust.Some n) h = h
+
 line_small : (l : List ℕ) → length l ≤ 65536 → Small (line_of l)
 unfolding line_of writes_in reads_in answers_in
 line_small l h =
@@ -56,7 +90,7 @@ line_small l h =
     (λ _. either Small (eqb (get_or l 0 0) 87)
     (λ _. either Small (pairs_then_end (drop 2 l)) (λ _. omega (arith, few_bytes (drop 2 l), length-drop 2 l, ltb-false (length l) 3 long)) (λ _. tt))
     (λ _. either Small (eqb (get_or l 0 0) 82)
-    (λ _. either Small (ltb 65535 (read_length_of l)) (λ _. tt) (λ e. ltb-false 65535 (read_length_of l) e))
+    (λ _. read_small l)
     (λ _. either Small (eqb (get_or l 0 0) 65) (λ _. either Small (words_then_end (drop 2 l)) (λ _. tt) (λ _. tt)) (λ _. tt))))
     (λ _. tt))
 
@@ -84,13 +118,16 @@ module _ (P : Said → Type 0) where
     header_keeps : (l : List ℕ) (ls : List (List ℕ)) → Short 65536 ls → HoldsCall (input_behind (header_of l) ls)
     unfolding header_of
     header_keeps l ls short =
-        let Q : Header → Type 0 = (λ h. HoldsCall (input_behind h ls)) in
+        let Q : rust.Option Header → Type 0 = (λ h. HoldsCall (input_behind h ls)) in
         either Q (is_header l)
         (λ _. either Q (ltb (get_or l 2 0) 48) (λ _. tt)
         (λ _. either Q (ltb 51 (get_or l 2 0)) (λ _. tt)
-        (λ e. either Q (ltb 255 (pair_of (get_or l 4 0) (get_or l 5 0))) (λ _. tt)
-        (λ _. lines_keep (get_or l 2 0 - 48) (pair_of (get_or l 4 0) (get_or l 5 0)) 1 said_nothing ls short (omega (arith, ltb-false 51 (get_or l 2 0) e)) first))))
+        (λ e. addressed (pair_of (get_or l 4 0) (get_or l 5 0)) (omega (arith, ltb-false 51 (get_or l 2 0) e)))))
         (λ _. tt)
+      where
+        addressed : (o : rust.Option ℕ) → get_or l 2 0 - 48 ≤ 3 → HoldsCall (input_behind (rust.option_map (λ (a : ℕ). record { chip = get_or l 2 0 - 48; address = a }) o) ls)
+        addressed rust.None h = tt
+        addressed (rust.Some a) h = lines_keep (get_or l 2 0 - 48) a 1 said_nothing ls short h first
 
     in_keeps : (ls : List (List ℕ)) → Short 65536 ls → HoldsCall (input_in ls)
     in_keeps [] short = tt

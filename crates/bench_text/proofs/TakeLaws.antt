@@ -5,38 +5,14 @@ use mathlib.Core.Path.{◌≡◌, refl}
 use mathlib.Core.Bool.{Bool, true, false, cond}
 use mathlib.Core.List.{List}
 use borrow.Author.Tests.{eq-eqb, ne_eqb, lt-ltb, le-ltb}
-use lib.Dec.{ltb}
 use lib.ListN.{length, get_or, drop}
+use Rattle.std.specs.Prelude.{Option, None, Some}
 use Rattle.bench_text.specs.Forms.{pairs_then_end, bytes_of, words_then_end, words_of, read_length_of}
 use Rattle.bench_text.specs.declared.input.Parts.{Parts}
 use Rattle.bench_text.specs.Taken.{list_with, written_with, answers_with}
-use Rattle.bench_text.specs.Input.{bad, writes, reads, answers, writes_in, reads_in, answers_in, line_of}
+use Rattle.bench_text.specs.Input.{bad, writes, answers, writes_in, read_line, reads_in, answers_in, line_of}
 
 module _ (l : List ℕ) where
-  pub write_bad : pairs_then_end (drop 2 l) ≡ false → writes_in l ≡ bad
-  unfolding writes_in
-  write_bad e = rw e
-
-  pub write_good : pairs_then_end (drop 2 l) ≡ true → writes_in l ≡ writes (bytes_of (drop 2 l))
-  unfolding writes_in
-  write_good e = rw e
-
-  pub read_bad : 65535 < read_length_of l → reads_in l ≡ bad
-  unfolding reads_in
-  read_bad h = rw (lt-ltb 65535 (read_length_of l) h)
-
-  pub read_good : read_length_of l ≤ 65535 → reads_in l ≡ reads (read_length_of l)
-  unfolding reads_in
-  read_good h = rw (le-ltb 65535 (read_length_of l) h)
-
-  pub answers_bad : words_then_end (drop 2 l) ≡ false → answers_in l ≡ bad
-  unfolding answers_in
-  answers_bad e = rw e
-
-  pub answers_good : words_then_end (drop 2 l) ≡ true → answers_in l ≡ answers (words_of (drop 2 l))
-  unfolding answers_in
-  answers_good e = rw e
-
   pub line_short : length l < 3 → line_of l ≡ bad
   unfolding line_of
   line_short h = rw (lt-ltb (length l) 3 h)
@@ -77,19 +53,19 @@ module _ (p : Parts) (l b : List ℕ) where
 
   pub read_leaves_written : written_with p (reads_in l) b ≡ b
   unfolding reads_in written_with
-  read_leaves_written = go (ltb 65535 (read_length_of l))
+  read_leaves_written = go (read_length_of l)
     where
-      go : (x : Bool) → written_with p (cond x bad (reads (read_length_of l))) b ≡ b
-      go true = refl
-      go false = refl
+      go : (x : Option ℕ) → written_with p (read_line x) b ≡ b
+      go None = refl
+      go (Some n) = refl
 
   pub read_leaves_answers : answers_with p (reads_in l) b ≡ b
   unfolding reads_in answers_with
-  read_leaves_answers = go (ltb 65535 (read_length_of l))
+  read_leaves_answers = go (read_length_of l)
     where
-      go : (x : Bool) → answers_with p (cond x bad (reads (read_length_of l))) b ≡ b
-      go true = refl
-      go false = refl
+      go : (x : Option ℕ) → answers_with p (read_line x) b ≡ b
+      go None = refl
+      go (Some n) = refl
 
   pub answers_leave_list : list_with p (answers_in l) b ≡ b
   unfolding answers_in list_with

@@ -1,17 +1,17 @@
 -- Digits: what a byte of the input means, and how a number is printed.
-use Rattle.std.specs.Prelude.{ℕ, ◌+◌, ◌-◌, ◌*◌, ◌/◌, ◌%◌, cond, List, [], ◌∷◌, eqb, ltb}
+use Rattle.std.specs.Prelude.{ℕ, ◌+◌, ◌-◌, ◌*◌, ◌/◌, ◌%◌, cond, List, [], ◌∷◌, ltb, Option, None, Some, option_and_then, option_map}
 
--- the value of a hex digit, `0` to `9` or `a` to `f`, and 16 for any other byte
-unfoldable pub digit_of : ℕ → ℕ
-digit_of b = cond (ltb b 48) 16 (cond (ltb b 58) (b - 48) (cond (ltb b 97) 16 (cond (ltb b 103) (b - 87) 16)))
+-- the value of a hex digit, `0` to `9` or `a` to `f`; any other byte has none
+unfoldable pub digit_of : ℕ → Option ℕ
+digit_of b = cond (ltb b 48) None (cond (ltb b 58) (Some (b - 48)) (cond (ltb b 97) None (cond (ltb b 103) (Some (b - 87)) None)))
 
--- the value of two hex digits, and 256 where one is none
-unfoldable pub pair_of : ℕ → ℕ → ℕ
-pair_of high low = cond (eqb (digit_of high) 16) 256 (cond (eqb (digit_of low) 16) 256 (digit_of high * 16 + digit_of low))
+-- the value of two hex digits, if both are digits
+unfoldable pub pair_of : ℕ → ℕ → Option ℕ
+pair_of high low = option_and_then (λ h. option_map (λ l. h * 16 + l) (digit_of low)) (digit_of high)
 
--- the value of four hex digits, and 65,536 where one is none
-unfoldable pub word_of : ℕ → ℕ → ℕ → ℕ → ℕ
-word_of a b c d = cond (ltb 255 (pair_of a b)) 65536 (cond (ltb 255 (pair_of c d)) 65536 (pair_of a b * 256 + pair_of c d))
+-- the value of four hex digits, if all are digits
+unfoldable pub word_of : ℕ → ℕ → ℕ → ℕ → Option ℕ
+word_of a b c d = option_and_then (λ h. option_map (λ l. h * 256 + l) (pair_of c d)) (pair_of a b)
 
 -- the character of the last hex digit of a number, and of the last decimal digit
 unfoldable pub glyph : ℕ → ℕ

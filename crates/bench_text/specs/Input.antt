@@ -2,7 +2,7 @@
 use Rattle.std.specs.Prelude.{ℕ, ◌+◌, ◌/◌, ◌%◌, Bool, true, false, cond, List, [], ◌∷◌, ◌++◌, eqb, ltb, length, get_or, drop}
 use Rattle.std.proofs.Math.Option.{Option, none, some}
 use Rattle.bench_text.specs.declared.line.Header.{Header}
-use Rattle.bench_text.specs.declared.line.Header.TheVariants as header
+use Rattle.std.specs.Prelude as rust
 use Rattle.bench_text.specs.Lines.{lines_of}
 use Rattle.bench_text.specs.Forms.{pairs_then_end, bytes_of, words_then_end, words_of, header_of, read_length_of}
 
@@ -16,8 +16,12 @@ pub data Line : Type 0 where
 unfoldable pub writes_in : List ℕ → Line
 writes_in l = cond (pairs_then_end (drop 2 l)) (writes (bytes_of (drop 2 l))) bad
 
+abbrev pub read_line : rust.Option ℕ → Line
+read_line rust.None = bad
+read_line (rust.Some n) = reads n
+
 unfoldable pub reads_in : List ℕ → Line
-reads_in l = cond (ltb 65535 (read_length_of l)) bad (reads (read_length_of l))
+reads_in l = read_line (read_length_of l)
 
 unfoldable pub answers_in : List ℕ → Line
 answers_in l = cond (words_then_end (drop 2 l)) (answers (words_of (drop 2 l))) bad
@@ -78,9 +82,9 @@ unfoldable pub input_from : ℕ → ℕ → ℕ → Said → List (List ℕ) →
 input_from chip address k s [] = call chip address s
 input_from chip address k s (l ∷ ls) = with_line (said_with s (line_of l)) (k + 1) (λ (t : Said). input_from chip address (k + 1) t ls)
 
-abbrev pub input_behind : Header → List (List ℕ) → Input
-input_behind header.Bad ls = bad_line 1
-input_behind (header.Call chip address) ls = input_from chip address 1 said_nothing ls
+abbrev pub input_behind : rust.Option Header → List (List ℕ) → Input
+input_behind rust.None ls = bad_line 1
+input_behind (rust.Some h) ls = input_from h.chip h.address 1 said_nothing ls
 
 abbrev pub input_in : List (List ℕ) → Input
 input_in [] = bad_line 1

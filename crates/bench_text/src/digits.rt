@@ -1,61 +1,42 @@
 // Digits: hex in lower case, and decimals.
-ghost use Rattle.std.specs.Prelude.{◌≡◌, ◌≤◌};
+ghost use Rattle.std.specs.Prelude.{◌≡◌, ◌≤◌, IfSome};
 ghost use Rattle.bench_text.specs.Digits.{digit_of, glyph, pair_of, word_of};
 
-// The value of a hex digit, and 16 for any other byte.
+// The value of a hex digit.
 #[tactic(auto, unfolding(crate::specs::Digits::digit_of))]
-pub fn digit(byte: u8) -> u8
+pub fn digit(byte: u8) -> Option<u8>
     ensures value { result ≡ digit_of byte }
-    ensures upper_bound { result ≤ 16 }
+    ensures upper_bound { IfSome result (λ d. d ≤ 15) }
 {
-    if byte < 48 {
-        return 16;
+    match byte {
+        b'0'..=b'9' => Some(byte - b'0'),
+        b'a'..=b'f' => Some(byte - 87),
+        _ => None,
     }
-    if byte < 58 {
-        return byte - 48;
-    }
-    if byte < 97 {
-        return 16;
-    }
-    if byte < 103 {
-        return byte - 87;
-    }
-    16
 }
 
-// The value of two hex digits, and 256 where one is none.
-pub fn pair(high: u8, low: u8) -> u16
-    ensures value { result ≡ pair_of high low }
-    ensures upper_bound { result ≤ 256 }
+// The value of two hex digits.
+#[tactic(auto, unfolding(crate::specs::Digits::pair_of))]
+pub fn pair(high: u8, low: u8) -> Option<u8>
+    ensures { result ≡ pair_of high low }
 {
-    let h = digit(high);
-    let l = digit(low);
-    if h == 16 {
-        return 256;
-    }
-    if l == 16 {
-        return 256;
-    }
-    h as u16 * 16 + l as u16
+    let high = digit(high)?;
+    let low = digit(low)?;
+    Some(high * 16 + low)
 }
 
-// The value of four hex digits, and 65,536 where one is none.
-pub fn word(a: u8, b: u8, c: u8, d: u8) -> u32
-    ensures value { result ≡ word_of a b c d }
-    ensures upper_bound { result ≤ 65536 }
+// The value of four hex digits.
+#[tactic(auto, unfolding(crate::specs::Digits::word_of))]
+pub fn word(a: u8, b: u8, c: u8, d: u8) -> Option<u16>
+    ensures { result ≡ word_of a b c d }
 {
-    let high = pair(a, b);
-    let low = pair(c, d);
-    if 255 < high {
-        return 65536;
-    }
-    if 255 < low {
-        return 65536;
-    }
-    high as u32 * 256 + low as u32
+    let high = pair(a, b)?;
+    let low = pair(c, d)?;
+    Some(u16::from_be_bytes([high, low]))
 }
 
 // The character of the last hex digit of a number.
+#[tactic(auto, unfolding(crate::specs::Digits::glyph))]
 pub fn glyph(n: u16) -> u8
     ensures { result ≡ glyph n }
 {

@@ -1,5 +1,5 @@
 // The whole input: the call that its lines say, or the first bad line.
-ghost use Rattle.std.specs.Prelude.{◌≡◌, ◌≤◌, length, drop};
+ghost use Rattle.std.specs.Prelude.{◌≡◌, ◌≤◌, length};
 ghost use Rattle.std.proofs.lemmas.List.Edits.{sets};
 ghost use Rattle.bench_text.specs.Input.{operation_bytes, room_with, writes_in, reads_in, answers_in, line_of, said_nothing, input_from, input_of};
 ghost use Rattle.bench_text.specs.Taken.{taken_with, list_with, written_with, answers_with, Grows, Room, parsed_of, FilledWith, Within};
@@ -19,28 +19,30 @@ pub struct Parts {
     pub answered: bool,
 }
 
+// The call that an input says.
 #[derive(Clone, Copy)]
-pub enum Taken {
-    Bad,
-    Good(Parts),
+pub struct Call {
+    pub header: Header,
+    pub parts: Parts,
 }
 
+// The first line that is bad, by its number; 0 where the text is too long.
 #[derive(Clone, Copy)]
-pub enum Parsed {
-    Bad(u32),
-    Call(u8, u8, Parts),
+pub struct BadLine {
+    pub number: u32,
 }
 
 // The list's three bytes for an operation.
 fn put_operation(list: &mut [u8], at: usize, direction: u8, length: usize)
     ensures { list.new ≡ sets list.old at (operation_bytes direction length) }
 {
-    line::put_byte(list, at, 0, direction);
-    line::put_byte(list, at, 1, (length % 256) as u8);
-    line::put_byte(list, at, 2, (length / 256 % 256) as u8);
+    line::put_at(list, at, 0, direction);
+    line::put_at(list, at, 1, (length % 256) as u8);
+    line::put_at(list, at, 2, (length / 256 % 256) as u8);
 }
 
-fn take_write(line: &[u8], parts: Parts, list: &mut [u8], written: &mut [u8]) -> Taken
+#[tactic(auto, unfolding(crate::specs::Taken::taken_with, crate::specs::Taken::list_with, crate::specs::Taken::written_with, crate::specs::Input::writes_in))]
+fn take_write(line: &[u8], parts: Parts, list: &mut [u8], written: &mut [u8]) -> Option<Parts>
     requires room { Room parts line.now }
     requires in_bounds { 3 ≤ length line.now }
     ensures value { result ≡ taken_with parts (writes_in line.now) }
@@ -48,15 +50,16 @@ fn take_write(line: &[u8], parts: Parts, list: &mut [u8], written: &mut [u8]) ->
     ensures written_after { written.new ≡ written_with parts (writes_in line.now) written.old }
     ensures grows { Grows parts (length line.now) result }
 {
-    if !line::is_pairs(line, 2) {
-        return Taken::Bad;
+    let pairs = &line[2..];
+    if !line::is_pairs(pairs) {
+        return None;
     }
     if parts.answered {
-        return Taken::Bad;
+        return None;
     }
-    let count = line::put_pairs(line, 2, written, parts.written);
+    let count = line::put_pairs(pairs, written, parts.written);
     put_operation(list, parts.listed, 0, count);
-    Taken::Good(Parts {
+    Some(Parts {
         listed: parts.listed + 3,
         written: parts.written + count,
         room: parts.room,
@@ -78,45 +81,46 @@ fn room_with(room: u32, length: u32) -> u32
     }
 }
 
-fn take_read(line: &[u8], parts: Parts, list: &mut [u8]) -> Taken
+#[tactic(auto, unfolding(crate::specs::Taken::taken_with, crate::specs::Taken::list_with, crate::specs::Input::reads_in))]
+fn take_read(line: &[u8], parts: Parts, list: &mut [u8]) -> Option<Parts>
     requires room { Room parts line.now }
     requires in_bounds { 3 ≤ length line.now }
     ensures value { result ≡ taken_with parts (reads_in line.now) }
     ensures list_after { list.new ≡ list_with parts (reads_in line.now) list.old }
     ensures grows { Grows parts (length line.now) result }
 {
-    let length = line::read_length(line);
-    if 65535 < length {
-        return Taken::Bad;
-    }
+    let length = line::read_length(line)?;
     if parts.answered {
-        return Taken::Bad;
+        return None;
     }
-    put_operation(list, parts.listed, 1, length as usize);
-    Taken::Good(Parts {
+    put_operation(list, parts.listed, 1, usize::from(length));
+    Some(Parts {
         listed: parts.listed + 3,
         written: parts.written,
-        room: room_with(parts.room, length),
+        room: room_with(parts.room, u32::from(length)),
         answers: parts.answers,
         answered: false,
     })
 }
 
-fn take_answers(line: &[u8], parts: Parts, answers: &mut [u16]) -> Taken
-    requires { Room parts line.now }
+#[tactic(auto, unfolding(crate::specs::Taken::taken_with, crate::specs::Taken::answers_with, crate::specs::Input::answers_in))]
+fn take_answers(line: &[u8], parts: Parts, answers: &mut [u16]) -> Option<Parts>
+    requires room { Room parts line.now }
+    requires in_bounds { 3 ≤ length line.now }
     ensures value { result ≡ taken_with parts (answers_in line.now) }
     ensures answers_after { answers.new ≡ answers_with parts (answers_in line.now) answers.old }
     ensures grows { Grows parts (length line.now) result }
 {
-    if !line::is_words(line, 2) {
-        return Taken::Bad;
+    let words = &line[2..];
+    if !line::is_words(words) {
+        return None;
     }
-    let count = line::count_words(line, 2);
+    let count = line::count_words(words);
     if 4096 < parts.answers + count {
-        return Taken::Bad;
+        return None;
     }
-    line::put_words(line, 2, answers, parts.answers);
-    Taken::Good(Parts {
+    line::put_words(words, answers, parts.answers);
+    Some(Parts {
         listed: parts.listed,
         written: parts.written,
         room: parts.room,
@@ -132,7 +136,7 @@ fn take(
     list: &mut [u8],
     written: &mut [u8],
     answers: &mut [u16],
-) -> Taken
+) -> Option<Parts>
     requires { Room parts line.now }
     ensures value { result ≡ taken_with parts (line_of line.now) }
     ensures list_after { list.new ≡ list_with parts (line_of line.now) list.old }
@@ -141,10 +145,10 @@ fn take(
     ensures grows { Grows parts (length line.now) result }
 {
     if line.len() < 3 {
-        return Taken::Bad;
+        return None;
     }
     if line::byte_at(line, 1) != b',' {
-        return Taken::Bad;
+        return None;
     }
     let letter = line::byte_at(line, 0);
     if letter == b'W' {
@@ -156,26 +160,23 @@ fn take(
     if letter == b'A' {
         return take_answers(line, parts, answers);
     }
-    Taken::Bad
+    None
 }
 
-// The lines behind the header, from a place on.
+// The lines behind the header.
 fn take_all(
     text: &[u8],
-    from: usize,
-    chip: u8,
-    address: u8,
+    header: Header,
     list: &mut [u8],
     written: &mut [u8],
     answers: &mut [u16],
-) -> Parsed
-    requires from_in_bounds { from ≤ length text.now }
-    requires text_len_bound { length text.now ≤ 65536 }
-    ensures value { result ≡ parsed_of (input_from chip address 1 said_nothing (lines_of (drop from text.now))) }
-    ensures filled_with { FilledWith (input_from chip address 1 said_nothing (lines_of (drop from text.now))) list.old list.new written.old written.new answers.old answers.new }
+) -> Result<Call, BadLine>
+    requires { length text.now ≤ 65536 }
+    ensures value { result ≡ parsed_of (input_from header.chip header.address 1 said_nothing (lines_of text.now)) }
+    ensures filled_with { FilledWith (input_from header.chip header.address 1 said_nothing (lines_of text.now)) list.old list.new written.old written.new answers.old answers.new }
     ensures within { Within result }
 {
-    let mut at = from;
+    let mut left = text;
     let mut number: u32 = 1;
     let mut parts = Parts {
         listed: 0,
@@ -184,34 +185,35 @@ fn take_all(
         answers: 0,
         answered: false,
     };
-    while at < text.len() {
+    while !left.is_empty() {
         number += 1;
-        let end = line::line_end(text, at);
-        match take(&text[at..end], parts, list, written, answers) {
-            Taken::Bad => {
-                return Parsed::Bad(number);
-            }
-            Taken::Good(more) => {
-                parts = more;
-            }
-        }
-        at = end;
+        let (line, behind) = left.split_at(line::line_end(left));
+        parts = match take(line, parts, list, written, answers) {
+            None => return Err(BadLine { number }),
+            Some(more) => more,
+        };
+        left = behind;
     }
-    Parsed::Call(chip, address, parts)
+    Ok(Call { header, parts })
 }
 
 // The call, its list, its bytes to write and its answers at the starts of the buffers; or the first bad line.
-pub fn parse(text: &[u8], list: &mut [u8], written: &mut [u8], answers: &mut [u16]) -> Parsed
+pub fn parse(
+    text: &[u8],
+    list: &mut [u8],
+    written: &mut [u8],
+    answers: &mut [u16],
+) -> Result<Call, BadLine>
     ensures value { result ≡ parsed_of (input_of text.now) }
     ensures filled_with { FilledWith (input_of text.now) list.old list.new written.old written.new answers.old answers.new }
     ensures within { Within result }
 {
     if 65536 < text.len() {
-        return Parsed::Bad(0);
+        return Err(BadLine { number: 0 });
     }
-    let end = line::line_end(text, 0);
-    match line::header_in(&text[0..end]) {
-        Header::Bad => Parsed::Bad(1),
-        Header::Call(chip, address) => take_all(text, end, chip, address, list, written, answers),
+    let (line, behind) = text.split_at(line::line_end(text));
+    match line::header_in(line) {
+        None => Err(BadLine { number: 1 }),
+        Some(header) => take_all(behind, header, list, written, answers),
     }
 }

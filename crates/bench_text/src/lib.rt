@@ -7,4 +7,5 @@ pub mod line;
 pub mod put;
 pub mod shown;
 
-pub use input::{Parsed, Parts};
+pub use input::{BadLine, Call, Parts};
+pub use line::Header;

@@ -1,6 +1,8 @@
 // One line, its line feed with it.
-ghost use Rattle.std.specs.Prelude.{◌≡◌, ◌+◌, ◌≤◌, length, get_or, drop, set};
+ghost use Rattle.std.specs.Prelude.{◌≡◌, ◌+◌, ◌≤◌, ◌==◌, is_some, length, get_or, set};
+ghost use Rattle.std.specs.List.{list_all, position};
 ghost use Rattle.std.proofs.lemmas.List.Edits.{sets};
+ghost use Rattle.bench_text.specs.Digits.{pair_of, word_of};
 ghost use Rattle.bench_text.specs.Lines.{line_length};
 ghost use Rattle.bench_text.specs.Forms.{pairs_then_end, words_then_end, bytes_of, words_of, is_header, header_of, read_length_of};
 
@@ -10,32 +12,35 @@ use crate::digits;
 pub fn byte_at(line: &[u8], at: usize) -> u8
     ensures { result ≡ get_or line.now at 0 }
 {
-    if at < line.len() { line[at] } else { 0 }
+    line.get(at).copied().unwrap_or(0)
 }
 
-// Where the line that begins at a place ends: behind its line feed, or with the text.
-pub fn line_end(text: &[u8], from: usize) -> usize
-    requires { from ≤ length text.now }
-    ensures value { result ≡ from + line_length (drop from text.now) }
+fn line_feed(text: &[u8]) -> Option<usize>
+    ensures { result ≡ position (λ x. x == 10) text.now }
+{
+    text.iter().position(|byte| *byte == b'\n')
+}
+
+// Where the first line ends: behind its line feed, or with the text.
+pub fn line_end(text: &[u8]) -> usize
+    ensures value { result ≡ line_length text.now }
     ensures upper_bound { result ≤ length text.now }
 {
-    let mut at = from;
-    while at < text.len() {
-        if text[at] == 10 {
-            return at + 1;
-        }
-        at += 1;
+    match line_feed(text) {
+        Some(i) => i + 1,
+        None => text.len(),
     }
-    at
 }
 
+// The chip's number and the address.
 #[derive(Clone, Copy)]
-pub enum Header {
-    Bad,
-    Call(u8, u8),
+pub struct Header {
+    pub chip: u8,
+    pub address: u8,
 }
 
 // Whether `T`, commas and the line feed stand where a header has them.
+#[tactic(auto, unfolding(crate::specs::Forms::is_header))]
 fn is_header(line: &[u8]) -> bool
     ensures { result ≡ is_header line.now }
 {
@@ -47,35 +52,37 @@ fn is_header(line: &[u8]) -> bool
 }
 
 // `T`, the chip and the address.
-pub fn header_in(line: &[u8]) -> Header
+#[tactic(auto, unfolding(crate::specs::Forms::header_of))]
+pub fn header_in(line: &[u8]) -> Option<Header>
     ensures { result ≡ header_of line.now }
 {
     if !is_header(line) {
-        return Header::Bad;
+        return None;
     }
     let chip = byte_at(line, 2);
     if chip < 48 {
-        return Header::Bad;
+        return None;
     }
     if 51 < chip {
-        return Header::Bad;
+        return None;
     }
-    let address = digits::pair(byte_at(line, 4), byte_at(line, 5));
-    if 255 < address {
-        return Header::Bad;
-    }
-    Header::Call(chip - 48, address as u8)
+    let address = digits::pair(byte_at(line, 4), byte_at(line, 5))?;
+    Some(Header {
+        chip: chip - 48,
+        address,
+    })
 }
 
-// The length of an `R` line, and 65,536 where it is bad.
-pub fn read_length(line: &[u8]) -> u32
+// The length of an `R` line.
+#[tactic(auto, unfolding(crate::specs::Forms::read_length_of))]
+pub fn read_length(line: &[u8]) -> Option<u16>
     ensures { result ≡ read_length_of line.now }
 {
     if line.len() != 7 {
-        return 65536;
+        return None;
     }
     if byte_at(line, 6) != 10 {
-        return 65536;
+        return None;
     }
     digits::word(
         byte_at(line, 2),
@@ -85,129 +92,96 @@ pub fn read_length(line: &[u8]) -> u32
     )
 }
 
-// Whether hex pairs and the line feed stand from a place on.
-pub fn is_pairs(line: &[u8], from: usize) -> bool
-    ensures { result ≡ pairs_then_end (drop from line.now) }
+// Whether two bytes are hex digits.
+fn is_pair(pair: &[u8; 2]) -> bool
+    ensures { result ≡ is_some (pair_of (get_or pair.now 0 0) (get_or pair.now 1 0)) }
 {
-    let mut at = from;
-    while at < line.len() {
-        if line.len() - at < 2 {
-            return line[at] == 10;
-        }
-        if 255 < digits::pair(line[at], line[at + 1]) {
+    digits::pair(pair[0], pair[1]).is_some()
+}
+
+// Whether all are.
+fn are_pairs(pairs: &[[u8; 2]]) -> bool
+    ensures { result ≡ list_all (λ c. is_some (pair_of (get_or c 0 0) (get_or c 1 0))) pairs.now }
+{
+    pairs.iter().all(|pair| is_pair(pair))
+}
+
+// Whether the text is hex pairs and the line feed.
+pub fn is_pairs(text: &[u8]) -> bool
+    ensures { result ≡ pairs_then_end text.now }
+{
+    let (pairs, end) = text.as_chunks::<2>();
+    are_pairs(pairs) & (end == b"\n".as_slice())
+}
+
+// Puts an item at a place of a buffer, and nothing past its end.
+pub fn put_at<T: Copy>(out: &mut [T], to: usize, count: usize, item: T)
+    ensures { out.new ≡ set out.old (to + count) item }
+{
+    if to < out.len() && count < out.len() - to {
+        out[to + count] = item;
+    }
+}
+
+// Puts the bytes that hex pairs spell into a buffer, nothing past its end, and answers how many they are.
+pub fn put_pairs(text: &[u8], out: &mut [u8], to: usize) -> usize
+    ensures value { result ≡ length (bytes_of text.now) }
+    ensures upper_bound { result ≤ length text.now }
+    ensures out_after { out.new ≡ sets out.old to (bytes_of text.now) }
+{
+    let (pairs, _) = text.as_chunks::<2>();
+    for (i, [high, low]) in pairs.iter().enumerate() {
+        put_at(out, to, i, digits::pair(*high, *low).unwrap_or(0));
+    }
+    pairs.len()
+}
+
+fn is_word(a: u8, b: u8, c: u8, d: u8) -> bool
+    ensures { result ≡ is_some (word_of a b c d) }
+{
+    digits::word(a, b, c, d).is_some()
+}
+
+// Whether the text is one or more words of four hex digits, a comma behind each but the last, and behind that the line feed.
+pub fn is_words(text: &[u8]) -> bool
+    ensures { result ≡ words_then_end text.now }
+{
+    let mut left = text;
+    while 5 <= left.len() {
+        let (word, behind) = left.split_at(5);
+        let good = is_word(word[0], word[1], word[2], word[3]);
+        if !good {
             return false;
         }
-        at += 2;
+        if behind.len() == 0 {
+            return word[4] == b'\n';
+        }
+        if word[4] != b',' {
+            return false;
+        }
+        left = behind;
     }
     false
 }
 
-// Puts a byte at a place of a buffer, and nothing past its end.
-pub fn put_byte(out: &mut [u8], to: usize, count: usize, byte: u8)
-    ensures { out.new ≡ set out.old (to + count) byte }
+// Puts the words into a buffer, nothing past its end, and answers how many they are.
+pub fn put_words(text: &[u8], out: &mut [u16], to: usize) -> usize
+    ensures value { result ≡ length (words_of text.now) }
+    ensures upper_bound { result ≤ length text.now }
+    ensures out_after { out.new ≡ sets out.old to (words_of text.now) }
 {
-    if to < out.len() {
-        if count < out.len() - to {
-            out[to + count] = byte;
-        }
+    let (words, _) = text.as_chunks::<5>();
+    for (i, [a, b, c, d, _]) in words.iter().enumerate() {
+        put_at(out, to, i, digits::word(*a, *b, *c, *d).unwrap_or(0));
     }
+    words.len()
 }
 
-// Puts the bytes that hex pairs from a place on spell into a buffer, nothing past its end, and answers how many they are.
-pub fn put_pairs(line: &[u8], from: usize, out: &mut [u8], to: usize) -> usize
-    ensures value { result ≡ length (bytes_of (drop from line.now)) }
-    ensures upper_bound { result ≤ length line.now }
-    ensures out_after { out.new ≡ sets out.old to (bytes_of (drop from line.now)) }
+// How many words there are.
+#[tactic(auto, using(crate::proofs::LineLaws::words_counted))]
+pub fn count_words(text: &[u8]) -> usize
+    ensures value { result ≡ length (words_of text.now) }
+    ensures upper_bound { result ≤ length text.now }
 {
-    let mut at = from;
-    let mut count: usize = 0;
-    while at < line.len() {
-        if line.len() - at < 2 {
-            return count;
-        }
-        put_byte(
-            out,
-            to,
-            count,
-            (digits::pair(line[at], line[at + 1]) % 256) as u8,
-        );
-        count += 1;
-        at += 2;
-    }
-    count
-}
-
-// Whether four hex digits and a comma, as often as wanted, then four and the line feed, stand from a place on.
-pub fn is_words(line: &[u8], from: usize) -> bool
-    ensures { result ≡ words_then_end (drop from line.now) }
-{
-    let mut at = from;
-    while at < line.len() {
-        if line.len() - at < 5 {
-            return false;
-        }
-        if 65535 < digits::word(line[at], line[at + 1], line[at + 2], line[at + 3]) {
-            return false;
-        }
-        let end = line[at + 4];
-        at += 5;
-        if line.len() <= at {
-            return end == 10;
-        }
-        if end != b',' {
-            return false;
-        }
-    }
-    false
-}
-
-fn put_answer(out: &mut [u16], to: usize, count: usize, word: u16)
-    ensures { out.new ≡ set out.old (to + count) word }
-{
-    if to < out.len() {
-        if count < out.len() - to {
-            out[to + count] = word;
-        }
-    }
-}
-
-// Puts the words from a place on into a buffer, nothing past its end, and answers how many they are.
-pub fn put_words(line: &[u8], from: usize, out: &mut [u16], to: usize) -> usize
-    ensures value { result ≡ length (words_of (drop from line.now)) }
-    ensures upper_bound { result ≤ length line.now }
-    ensures out_after { out.new ≡ sets out.old to (words_of (drop from line.now)) }
-{
-    let mut at = from;
-    let mut count: usize = 0;
-    while at < line.len() {
-        if line.len() - at < 5 {
-            return count;
-        }
-        put_answer(
-            out,
-            to,
-            count,
-            (digits::word(line[at], line[at + 1], line[at + 2], line[at + 3]) % 65536) as u16,
-        );
-        count += 1;
-        at += 5;
-    }
-    count
-}
-
-// How many words there are from a place on.
-pub fn count_words(line: &[u8], from: usize) -> usize
-    ensures value { result ≡ length (words_of (drop from line.now)) }
-    ensures upper_bound { result ≤ length line.now }
-{
-    let mut at = from;
-    let mut count: usize = 0;
-    while at < line.len() {
-        if line.len() - at < 5 {
-            return count;
-        }
-        count += 1;
-        at += 5;
-    }
-    count
+    text.len() / 5
 }

@@ -1,4 +1,4 @@
-// Text put into a buffer.
+// Text put into a lent buffer, since that cannot fail, as a `String` can.
 ghost use Rattle.std.specs.Prelude.{◌≡◌, ◌+◌, ◌≤◌, length};
 ghost use Rattle.bench_text.specs.Digits.{decimal_glyph, word_text, pair_text, decimal_text, hex_text};
 ghost use Rattle.bench_text.specs.Puts.{Puts};
@@ -10,12 +10,9 @@ pub fn put(out: &mut [u8], at: usize, bytes: &[u8]) -> usize
     requires { at + length bytes.now ≤ length out.old }
     ensures { Puts out.old at bytes.now result out.new }
 {
-    let mut i = 0;
-    while i < bytes.len() {
-        out[at + i] = bytes[i];
-        i += 1;
-    }
-    at + i
+    let end = at + bytes.len();
+    out[at..end].copy_from_slice(bytes);
+    end
 }
 
 // A word as four hex digits.
@@ -56,11 +53,9 @@ pub fn put_hex(out: &mut [u8], at: usize, bytes: &[u8]) -> usize
     ensures puts { Puts out.old at (hex_text bytes.now) result out.new }
     ensures value { result ≡ at + (length bytes.now + length bytes.now) }
 {
-    let mut i = 0;
     let mut place = at;
-    while i < bytes.len() {
-        place = put_pair(out, place, bytes[i]);
-        i += 1;
+    for byte in bytes {
+        place = put_pair(out, place, *byte);
     }
     place
 }
@@ -72,6 +67,7 @@ fn decimal_digit(n: u32) -> u8
 }
 
 // A number below 100,000 in decimal; of a larger one the last five digits.
+#[tactic(auto, unfolding(crate::specs::Digits::decimal_text))]
 pub fn put_decimal(out: &mut [u8], at: usize, n: u32) -> usize
     requires { at + 5 ≤ length out.old }
     ensures puts { Puts out.old at (decimal_text n) result out.new }

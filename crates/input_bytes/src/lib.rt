@@ -16,6 +16,7 @@ pub fn read_full<R: Read>(input: &mut R, buffer: &mut [u8]) -> io::Result<usize>
     ensures none_lost { IfErr result (λ _. (n : ℕ) × (n ≤ length buffer.new) × Consumes (R.remaining input.old) (R.remaining input.new) (take n buffer.new)) }
 {
     let mut done = 0;
+    // No counted index: each turn goes on by what the read gave.
     while done < buffer.len() {
         let n = input.read(&mut buffer[done..])?;
         if n == 0 {

@@ -1,22 +1,58 @@
-// The nine entries of the library by a stored call's number.
-use crate::stored::Call;
+// The nine entries of the library by a stored call's entry.
+use crate::stored::{Call, Entry};
 use access::ending;
 use ch32_i2c::{init, init_slave, response, transfer};
 use errors::rust;
 use images::numbers;
 
-pub fn begin(call: Call, block: &mut [u8], list: &[u8], written: &[u8], read: &mut [u8]) -> u64 {
+// What is lent at each step.
+#[derive(Drop)]
+pub struct Lent<'a> {
+    pub block: &'a mut [u8],
+    pub list: &'a [u8],
+    pub written: &'a [u8],
+    pub read: &'a mut [u8],
+}
+
+// By a `match`, which is plainer than a table of functions: what each is lent differs.
+pub fn begin(call: Call, lent: &mut Lent) -> u64 {
     let chip = call.chip;
     let target = call.target;
-    let entry = call.entry;
-    match entry {
-        0 => init::ch32_i2c_init_begin(block, chip, call.input, call.frequency, call.duty),
-        1 => transfer::ch32_i2c_transaction_begin(block, chip, target, list, written, read),
-        2 => transfer::ch32_i2c_write_read_begin(block, chip, target, written, read),
-        3 => transfer::ch32_i2c_write_begin(block, chip, target, call.option, written),
-        4 => transfer::ch32_i2c_read_begin(block, chip, target, call.option, read),
-        5 => init_slave::ch32_i2c_init_slave_begin(
-            block,
+    match call.entry {
+        Entry::Init => init::ch32_i2c_init_begin(
+            lent.block,
+            chip,
+            call.input,
+            call.frequency,
+            call.duty,
+        ),
+        Entry::Transaction => transfer::ch32_i2c_transaction_begin(
+            lent.block,
+            chip,
+            target,
+            lent.list,
+            lent.written,
+            lent.read,
+        ),
+        Entry::WriteRead => transfer::ch32_i2c_write_read_begin(
+            lent.block,
+            chip,
+            target,
+            lent.written,
+            lent.read,
+        ),
+        Entry::Write => transfer::ch32_i2c_write_begin(
+            lent.block,
+            chip,
+            target,
+            call.option,
+            lent.written,
+        ),
+        Entry::Read => {
+            transfer::ch32_i2c_read_begin(lent.block, chip, target, call.option, lent.read)
+        }
+        Entry::InitSlave => init_slave::ch32_i2c_init_slave_begin(
+            lent.block,
             call.ten_bit,
             call.address,
             call.has_second,
@@ -24,30 +60,40 @@ pub fn begin(call: Call, block: &mut [u8], list: &[u8], written: &[u8], read: &m
             call.general_call,
             call.clock_stretching,
         ),
-        6 => response::ch32_i2c_listen_begin(block, chip),
-        7 => response::ch32_i2c_respond_to_write_begin(block, chip, read),
-        _ => response::ch32_i2c_respond_to_read_begin(block, chip, written),
+        Entry::Listen => response::ch32_i2c_listen_begin(lent.block, chip),
+        Entry::RespondToWrite => {
+            response::ch32_i2c_respond_to_write_begin(lent.block, chip, lent.read)
+        }
+        Entry::RespondToRead => {
+            response::ch32_i2c_respond_to_read_begin(lent.block, chip, lent.written)
+        }
     }
 }
 
-pub fn step(
-    entry: u8,
-    block: &mut [u8],
-    list: &[u8],
-    written: &[u8],
-    read: &mut [u8],
-    answer: u16,
-) -> u64 {
+// By a `match`, as above.
+pub fn step(entry: Entry, lent: &mut Lent, answer: u16) -> u64 {
     match entry {
-        0 => init::ch32_i2c_init_step(block, answer),
-        1 => transfer::ch32_i2c_transaction_step(block, list, written, read, answer),
-        2 => transfer::ch32_i2c_write_read_step(block, written, read, answer),
-        3 => transfer::ch32_i2c_write_step(block, written, answer),
-        4 => transfer::ch32_i2c_read_step(block, read, answer),
-        5 => init_slave::ch32_i2c_init_slave_step(block, answer),
-        6 => response::ch32_i2c_listen_step(block, answer),
-        7 => response::ch32_i2c_respond_to_write_step(block, read, answer),
-        _ => response::ch32_i2c_respond_to_read_step(block, written, answer),
+        Entry::Init => init::ch32_i2c_init_step(lent.block, answer),
+        Entry::Transaction => transfer::ch32_i2c_transaction_step(
+            lent.block,
+            lent.list,
+            lent.written,
+            lent.read,
+            answer,
+        ),
+        Entry::WriteRead => {
+            transfer::ch32_i2c_write_read_step(lent.block, lent.written, lent.read, answer)
+        }
+        Entry::Write => transfer::ch32_i2c_write_step(lent.block, lent.written, answer),
+        Entry::Read => transfer::ch32_i2c_read_step(lent.block, lent.read, answer),
+        Entry::InitSlave => init_slave::ch32_i2c_init_slave_step(lent.block, answer),
+        Entry::Listen => response::ch32_i2c_listen_step(lent.block, answer),
+        Entry::RespondToWrite => {
+            response::ch32_i2c_respond_to_write_step(lent.block, lent.read, answer)
+        }
+        Entry::RespondToRead => {
+            response::ch32_i2c_respond_to_read_step(lent.block, lent.written, answer)
+        }
     }
 }
 
@@ -56,12 +102,19 @@ pub fn extra(end: u64) -> u16 {
     ending::ending_extra(ending::ending_in(end))
 }
 
-// An end of the library as the Rust's. `init` (0) and `init_slave` (5) have no error check; the calls between them are a
-// master's. What is no end's number stays, and differs from every stored end.
-pub fn as_the_rust(entry: u8, chip: u8, end: u64) -> u64 {
+fn is_master(entry: Entry) -> bool {
+    matches!(
+        entry,
+        Entry::Transaction | Entry::WriteRead | Entry::Write | Entry::Read
+    )
+}
+
+// An end of the library as the Rust's. `init` and `init_slave` have no error check. What is no end's number stays, and differs
+// from every stored end.
+pub fn as_the_rust(entry: Entry, chip: u8, end: u64) -> u64 {
     let ours = ending::ending_in(end);
-    if (entry == 0) | (entry == 5) | (ending::ending_number(ours) != end) {
+    if entry == Entry::Init || entry == Entry::InitSlave || ending::ending_number(ours) != end {
         return end;
     }
-    ending::ending_number(rust::as_the_rust(ours, numbers::chip_of(chip), entry < 5))
+    ending::ending_number(rust::as_the_rust(ours, numbers::chip_of(chip), is_master(entry)))
 }

@@ -17,26 +17,6 @@ use std::io;
 // Room for the sample, and more.
 const MOST: usize = 1048576;
 
-fn print_number(rt: &impl Print, number: u64, text: &[u8]) -> io::Result<()> {
-    rt.print(number)?;
-    rt.write_all(text)
-}
-
-fn print_tally(rt: &impl Print, tally: Tally) -> io::Result<()> {
-    print_number(rt, tally.calls, b" calls of the sample, ")?;
-    print_number(rt, tally.accesses, b" accesses, ")?;
-    print_number(rt, tally.arrived, b" bytes read, ")?;
-    print_number(rt, tally.differences, b" differences\n")?;
-    if tally.differences != 0 {
-        rt.write_all(b"the first in call ")?;
-        print_number(rt, tally.first, b"\n")?;
-    }
-    if !tally.whole {
-        rt.write_all(b"the sample is cut short\n")?;
-    }
-    Ok(())
-}
-
 fn space() -> [u8; MOST]
     ensures { 1048576 ≡ length result }
 {
@@ -55,5 +35,5 @@ fn main(rt: HostRuntime) -> io::Result<()> {
     let mut file = File::open(&rt, "sample.bin")?;
     let mut sample = space();
     let length = read_full(&mut file, &mut sample)?;
-    print_tally(&rt, replayed(&sample[..length]))
+    rt.print(replayed(&sample[..length]))
 }

@@ -1,1 +1,1 @@
-pub mod NothingPut
+pub mod JoinedLaws

@@ -4,8 +4,8 @@ use Rattle.bench_text.specs.Input.{input_of}
 use Rattle.bench_run.proofs.PrintedLaws.{call_printed}
 use Rattle.bench_run.proofs.answer.answer.Goals as goal
 
-pub returns-in-Call-clause-puts : goal.returns-in-Call-clause-puts
-returns-in-Call-clause-puts c =
-    let w = c.in-Call.ensures.within in
-    let e = call_printed (input_of c.args.text.now) _ _ _ _ _ _ _ _ _ c.args.read.now (sym c.parse.ensures.value ∙ c.in-Call.is) c.parse.ensures.filled_with (le_trans w.0 c.requires.in_bounds) (le_trans w.1 c.requires.in_bounds_2) (le_trans w.3 c.requires.in_bounds_3) in
+pub returns-in-Ok-clause-puts : goal.returns-in-Ok-clause-puts
+returns-in-Ok-clause-puts c =
+    let w = c.in-Ok.ensures.within in
+    let e = call_printed (input_of c.args.text.now) _ _ _ _ _ _ _ _ _ c.args.read.now (sym c.parse.ensures.value ∙ c.in-Ok.is) c.parse.ensures.filled_with (le_trans w.0 c.requires.in_bounds) (le_trans w.1 c.requires.in_bounds_2) (le_trans w.3 c.requires.in_bounds_3) in
     rw e c.play.ensures.puts

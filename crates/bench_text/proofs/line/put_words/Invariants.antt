@@ -1,13 +1,14 @@
 -- `bench_text::line::put_words` meets its contract: what is left to store leads to the whole.
-use Prim.Native.Nat.{◌+◌, ◌-◌, ◌≤◌}
+use Prim.Native.Nat.{◌+◌}
 use mathlib.Core.Path.{◌≡◌}
+use mathlib.Core.List.{map}
 use lib.ListN.{length, drop}
-use Rattle.bench_text.specs.Forms.{words_of}
+use Rattle.bench_text.proofs.LineLaws.{number_in}
 use Rattle.bench_text.proofs.PutLaws.{Leads}
 use Rattle.bench_text.proofs.line.put_words.Given as goal
 
-abbrev pub invariant-loop-at : goal.invariant-loop-at
-invariant-loop-at l = (length l.out ≡ length l.initial.out) × (l.count ≤ l.at) × (l.count ≤ length l.line) × Leads l.out (l.to + l.count) (words_of (drop l.at l.line)) l.initial.out l.to (words_of (drop l.from l.line))
-
-abbrev pub decreases-loop-at : goal.decreases-loop-at
-decreases-loop-at l = length l.line - l.at
+abbrev pub invariant-loop-i : goal.invariant-loop-i
+invariant-loop-i l = record {
+  same : length l.out ≡ length l.initial.out;
+  leads : Leads l.out (l.to + l.i) (map number_in (drop l.i l.words)) l.initial.out l.to (map number_in l.words);
+}

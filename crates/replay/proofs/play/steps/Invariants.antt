@@ -1,9 +1,9 @@
--- `replay::play::steps` meets its contract.
-use Rattle.std.proofs.Common.{◌≡◌, ◌-◌, ◌≤◌, length}
+-- `replay::play::steps`: what is left of the accesses gets shorter.
+use Rattle.std.proofs.Common.{◌≤◌, length}
 use Rattle.replay.proofs.play.steps.Given as goal
 
-abbrev pub invariant-loop-at : goal.invariant-loop-at
-invariant-loop-at l = (l.at ≤ length l.accesses) × ((length l.block ≡ length l.initial.block) × (length l.read ≡ length l.initial.read))
+abbrev pub invariant-loop-bytes : goal.invariant-loop-bytes
+invariant-loop-bytes l = length l.left ≤ length l.accesses
 
-abbrev pub decreases-loop-at : goal.decreases-loop-at
-decreases-loop-at l = length l.accesses - l.at
+abbrev pub decreases-loop-bytes : goal.decreases-loop-bytes
+decreases-loop-bytes l = length l.left

@@ -1,12 +1,16 @@
--- `support_card::card::put_card` meets its contract.
-use native.Mathlib.Omega.{arith}
-use Rattle.bench_text.proofs.PutLaws.{both}
-use Rattle.support_card.proofs.NothingPut.{nothing}
+-- `support_card::card::put_card` meets its contract: each turn puts one chip's lines more.
+use Rattle.std.proofs.Common.{arith}
+use Rattle.registers.specs.Chips.{chips}
+use Rattle.support_card.specs.CardText.{head_text, both_text}
+use Rattle.support_card.proofs.JoinedLaws.{more_put}
 use Rattle.support_card.proofs.card.put_card.Goals as goal
 
-pub returns : goal.returns
-returns c =
+pub loop-chip-preserved : goal.loop-chip-preserved
+loop-chip-preserved c =
+    let i = c.loop-chip.invariant in
+    let q = rw c.chips.ensures at c.put_both-end.ensures.puts in
     record {
-      puts = both c.put-first.ensures (both c.put_both-second.ensures.puts (both c.put_both-third.ensures.puts (both c.put_both-fourth.ensures.puts (both c.put_both.ensures.puts nothing))));
-      upper_bound = omega (arith, c.put-first.ensures.place, c.put_both-second.ensures.upper_bound, c.put_both-third.ensures.upper_bound, c.put_both-fourth.ensures.upper_bound, c.put_both.ensures.upper_bound);
+      puts = more_put both_text head_text chips c.loop-chip.chip-index _ c.loop-chip-test.true i.puts q;
+      upper_bound = omega (arith, c.put_both-end.ensures.upper_bound, i.upper_bound);
+      same = omega (arith, c.put_both-end.auto.out, i.same);
     }

@@ -1,14 +1,29 @@
--- `support_card::card::put_side` meets its contract.
-use native.Mathlib.Omega.{arith}
-use Rattle.bench_text.proofs.PutLaws.{both}
-use Rattle.support_card.specs.CardText.{side_text}
-use Rattle.support_card.proofs.NothingPut.{nothing}
+-- `support_card::card::put_side` meets its contract: each turn puts one class's line more.
+use Rattle.std.proofs.Common.{refl, arith, [], subst, ℕ, ◌≡◌, take}
+use Rattle.class_count.specs.Card.{card_classes}
+use Rattle.bench_text.specs.Puts.{Puts}
+use Rattle.support_card.specs.CardText.{joined, line_text, side_text}
+use Rattle.support_card.proofs.JoinedLaws.{nothing, more_put}
 use Rattle.support_card.proofs.card.put_side.Goals as goal
+
+pub loop-class-init : goal.loop-class-init
+loop-class-init c = record { puts = nothing; upper_bound = omega arith; same = refl }
+
+pub loop-class-preserved : goal.loop-class-preserved
+loop-class-preserved c =
+    let i = c.loop-class.invariant in
+    record {
+      puts = more_put (line_text c.args.chip c.args.nack) [] card_classes c.loop-class.class-index _ c.loop-class-test.true i.puts c.put_line-end.ensures.puts;
+      upper_bound = omega (arith, c.put_line-end.ensures.upper_bound, i.upper_bound);
+      same = omega (arith, c.put_line-end.auto.out, i.same);
+    }
 
 pub returns : goal.returns
 unfolding side_text
 returns c =
+    let i = c.loop-class.invariant in
+    let e : c.loop-class.class-index ≡ 7 = omega arith in
     record {
-      puts = both c.put_line-bus.ensures.puts (both c.put_line-timeout.ensures.puts (both c.put_line-crc.ensures.puts (both c.put_line-overrun.ensures.puts (both c.put_line-acknowledge.ensures.puts (both c.put_line-none.ensures.puts (both c.put_line.ensures.puts nothing))))));
-      upper_bound = omega (arith, c.put_line-bus.ensures.upper_bound, c.put_line-timeout.ensures.upper_bound, c.put_line-crc.ensures.upper_bound, c.put_line-overrun.ensures.upper_bound, c.put_line-acknowledge.ensures.upper_bound, c.put_line-none.ensures.upper_bound, c.put_line.ensures.upper_bound);
+      puts = subst (λ (n : ℕ). Puts c.args.out.now c.args.at (joined (line_text c.args.chip c.args.nack) (take n card_classes)) c.loop-class.end c.loop-class.out) e i.puts;
+      upper_bound = omega (arith, i.upper_bound, e);
     }

@@ -1,0 +1,13 @@
+-- `support_card::card::put_card`: so many chips have their lines.
+use Rattle.std.proofs.Common.{◌+◌, ◌*◌, ◌≤◌, ◌≡◌, ◌++◌, take, length}
+use Rattle.registers.specs.Chips.{chips}
+use Rattle.bench_text.specs.Puts.{Puts}
+use Rattle.support_card.specs.CardText.{joined, head_text, both_text}
+use Rattle.support_card.proofs.card.put_card.Given as goal
+
+abbrev pub invariant-loop-chip : goal.invariant-loop-chip
+invariant-loop-chip l = record {
+  puts : Puts l.fn.out 0 (head_text ++ joined both_text (take l.chip-index chips)) l.end l.out;
+  upper_bound : l.end ≤ 35 + 490 * l.chip-index;
+  same : length l.out ≡ length l.fn.out;
+}
