@@ -1,225 +1,356 @@
 """pointers.py MODULE.ll: that the kept module may be compiled with pointers of 4 bytes.
 
-- A pointer then fills 4 of the 8 bytes that the module leaves for it. That is harmless as long as nobody reads or writes these 8 bytes as a number. Each place
-  (a local variable's or parameter's bytes) gets the types by which it is read or written; a copy and a call make two places one.
+A pointer then fills 4 of the 8 bytes that the module leaves for it, at the same place (rv32/to32.py sees to that). This is harmless as long as nobody reads or writes
+these 8 bytes as anything else. Each exported function is followed with all that it calls, each call by itself as if the called function stood there, and for each pointer
+it is found out where it may lead: into which variable, which constant or which bytes that C lends, and how far into it. Then:
+
+- Each place has the types by which it is read or written; a copy makes two places one. No place is used both as a pointer and as a number.
 - Zeros are written over all 8 bytes of a pointer or over none, and all of them are copied or none: so it is null, or the same, with 4 bytes too.
-- A local variable that is a pointer has 4 bytes and no more: no copy, and no function that gets its address, may go beyond.
-- Through pointers that were loaded from memory only single bytes are read and written. No function comes back to itself.
+- A local variable that is a pointer has 4 bytes and no more, and nothing may go beyond. (Zeros over it by its own name are 4 on the target.)
+- Where a pointer is moved by a number, as to an element of a slice, it may be anywhere in its variable; then no pointer may lie in that variable.
+- What C lends is read and written by single bytes, and copied, and no pointer is put there. A constant holds no pointer, and nobody writes it.
 - Pointers are compared with null alone, in exported functions alone: for a null, which has the length 0, the kit puts address 4096, which nobody follows. The answer
-  is used for nothing else.
+  is used for nothing else. No function comes back to itself.
 
 Order and paths are not looked at, so what is found may be harmless, but what is not found is not there."""
 import re
 from collections import defaultdict
 
-from forms import V, Refused, lines, run
+from forms import V, WIDTH, Refused, lines, parts, run
 
-WIDTH = {'i1': 1, 'i8': 1, 'i16': 2, 'i32': 4, 'i64': 8, 'ptr': 8}  # what the module leaves
 WIDTH_32 = {**WIDTH, 'ptr': 4}  # what the target takes
-LOADED = 'loaded'  # where a pointer leads that was loaded from memory
+ANYWHERE = None  # an offset that is not known
 
 
-def parts(pair):
-    """The offsets and types of a struct of numbers."""
-    at = 0
-    for part in re.findall(r'i\d+', pair):
-        at += -at % WIDTH[part]
-        yield at, part
-        at += WIDTH[part]
+class Function:
+    def __init__(self, match, exported):
+        self.name, self.exported, self.type = match['name'], exported, match['type']
+        self.types, self.parameters = typed(match['parameters'])
+        self.steps = []  # what it does with pointers: kind of step, line, and what the step is about
+        self.calls = set()
 
 
-class Module:
-    def __init__(self):
-        self.types = defaultdict(lambda: defaultdict(set))  # object -> offset -> types
-        self.same = []  # (object, offset, object, offset, length or None)
-        self.zeroed = defaultdict(set)  # object -> (offset, length)
-        self.stored = set()  # objects whose address is stored in memory
-        self.sizes = {}  # of local variables, on the target
-        self.used = defaultdict(int)  # object -> how far into it is read or written, on the target
-        self.calls = {}
-
-    def use(self, place, kind, number):
-        if place[0] != LOADED:
-            self.types[place[0]][place[1]].add(kind)
-            self.reach(place, WIDTH_32[kind])
-        elif kind != 'i8':
-            raise Refused('line %d: %s through a loaded pointer' % (number, kind))
-
-    def zeros(self, place, length, number):
-        if place[0] == LOADED:
-            raise Refused('line %d: zeros through a loaded pointer' % number)
-        self.zeroed[place[0]].add((place[1], length))
-        self.reach(place, length)
-
-    def reach(self, place, length):
-        self.used[place[0]] = max(self.used[place[0]], place[1] + length)
+def typed(text):
+    """The types of parameters or arguments; and of each that is a pointer its name, of others None."""
+    words = [value.split() for value in text.split(', ') if value]
+    return [w[0] for w in words], [w[-1] if w[0] == 'ptr' else None for w in words]
 
 
-class Places(dict):
-    """Where each pointer of a function leads: an object and an offset."""
+def read(path):
+    """The functions of the module, and the sizes of its constants."""
+    functions, constants = {}, {}
+    function, nulls, pointers = None, {}, set()
+    for number, kind, match, text in lines(path):
+        if kind in ('exported', 'internal'):
+            function = functions[match['name']] = Function(match, kind == 'exported')
+            nulls = {}  # in an exported function: the steps from the question whether a parameter is null to the address that is put for it
+            pointers = set()  # local variables that are pointers
+        elif kind == 'constant':
+            constants[match['name']] = int(match['size'])
+        else:
+            read_line(function, nulls, pointers, number, kind, match, text)
+    return functions, constants
+
+
+def read_line(function, nulls, pointers, number, kind, match, text):
+    def step(name):
+        return nulls.get(name, (None, None))[1]
+
+    def does(kind, *about):
+        function.steps.append((kind, number, *about))
+
+    if kind == 'is null':
+        if not function.exported:
+            raise Refused('line %d: a pointer is compared: %s' % (number, text))
+        nulls[match['to']] = (match['of'], 'asked')
+    elif kind == 'wider' and step(match['of']) == 'asked':
+        nulls[match['to']] = (nulls[match['of']][0], 'number')
+    elif kind == 'arithmetic' and step(match['of']) == 'number' and (match['what'], match['by']) == ('mul', '4096'):
+        nulls[match['to']] = (nulls[match['of']][0], 'moved')
+    elif kind == 'moved' and function.exported:
+        if nulls.get(match['by']) != (match['of'], 'moved'):
+            raise Refused('line %d: pointer arithmetic: %s' % (number, text))
+        does('move', match['to'], match['of'], 0)
+    elif nulls.keys() & set(re.findall(V, text)):
+        raise Refused('line %d: whether a pointer is null is used otherwise: %s' % (number, text))
+    elif kind == 'local':
+        if match['type'] == 'ptr':
+            pointers.add(match['to'])
+        does('local', match['to'], *([int(match['bytes'])] * 2 if match['bytes'] else [WIDTH[match['type']], WIDTH_32[match['type']]]))
+    elif kind == 'place':
+        does('move', match['to'], match['of'], int(match['by']))
+    elif kind in ('element', 'moved'):
+        does('move', match['to'], match['of'], ANYWHERE)
+    elif kind == 'load':
+        does('load', match['to'], match['at'], parts(match['type']))
+    elif kind == 'store':
+        does('use', match['at'], match['type'])
+    elif kind == 'store of a pointer':
+        does('store', match['at'], match['value'])
+    elif kind == 'copy':
+        does('copy', match['into'], match['of'], int(match['length']))
+    elif kind == 'zeros':
+        own = match['into'] in pointers and match['length'] == '8'
+        does('zeros', match['into'], int(match['length']), 4 if own else int(match['length']))
+    elif kind == 'filled':  # each byte is written as a number
+        does('fill', match['into'], int(match['length']))
+    elif kind == 'call':
+        types, arguments = typed(match['arguments'])
+        function.calls.add((match['name'], match['type'], *types))
+        does('call', match['to'], parts(match['type']), match['name'], arguments)
+    elif kind == 'part':
+        does('part', match['to'], match['of'], int(match['index']))
+    elif kind == 'return' and 'ptr' in (match['type'] or ''):
+        does('return', match['of'])
+
+
+class Object:
+    """A local variable, a constant, or bytes that C lends. Offsets are those of the module."""
+
+    def __init__(self, name, kind, size=0, here=0):
+        self.name, self.kind = name, kind
+        self.size, self.here = size, here  # in the module, and on the target
+        self.leads = defaultdict(set)  # offset -> where the pointer there may lead
+        self.types = defaultdict(dict)  # offset -> type -> the first line that uses it so
+        self.together = {}  # (offset, length) -> what is done with these bytes in one
+
+    def moved(self, offset, by, number):
+        if self.kind == 'lent' or ANYWHERE in (offset, by):
+            return ANYWHERE
+        if offset + by > self.size:
+            raise Refused('line %d: a pointer leads behind %s' % (number, self.name))
+        return offset + by
+
+    def found(self, offset):
+        """Where the pointer at an offset may lead."""
+        if offset is ANYWHERE:
+            return set().union(*self.leads.values())
+        return self.leads.get(offset, set()) | self.leads.get(ANYWHERE, set())
+
+    def used(self, offset, length, number, written):
+        """So many bytes of the target are read or written."""
+        if self.kind == 'constant' and written:
+            raise Refused('line %d: the constant %s is written' % (number, self.name))
+        if self.kind != 'lent' and (self.here < self.size if offset is ANYWHERE else self.here < offset + length):
+            raise Refused('line %d: %s: has %d bytes on the target, and %d are used %s' % (number, self.name, self.here, length, where(offset)))
+
+    def check(self):
+        pointers = [offset for offset, types in self.types.items() if 'ptr' in types]
+        for offset, types in self.types.items():
+            for kind, number in types.items():
+                self.check_type(offset, kind, number, pointers)
+        for (offset, length), what in self.together.items():
+            for pointer in pointers:
+                if offset is ANYWHERE or offset < pointer + 8 and pointer < offset + length and not offset <= pointer <= offset + length - 8:
+                    raise Refused('%s: a pointer %s, and %d %s %s' % (self.name, where(pointer), length, what, where(offset)))
+        return len(pointers)
+
+    def check_type(self, offset, kind, number, pointers):
+        if self.kind == 'lent' and kind != 'i8':
+            raise Refused('line %d: %s is used as %s' % (number, self.name, kind))
+        if self.kind == 'constant' and kind == 'ptr':
+            raise Refused('line %d: a pointer is read from the constant %s' % (number, self.name))
+        for pointer in pointers:
+            unknown = ANYWHERE in (offset, pointer)
+            if unknown or (offset, kind) != (pointer, 'ptr') and offset < pointer + 8 and pointer < offset + WIDTH[kind]:
+                raise Refused('line %d: %s: a pointer %s, and %s %s' % (number, self.name, where(pointer), kind, where(offset)))
+
+
+def where(offset):
+    return 'anywhere' if offset is ANYWHERE else 'at %d' % offset
+
+
+def add(to, more):
+    """Whether the set grew."""
+    before = len(to)
+    to |= more
+    return len(to) > before
+
+
+class Values(dict):
+    """What a function's names stand for: a set of places (object, offset) for a pointer, a list of two such for a pair, None for a number."""
 
     def __missing__(self, name):
         raise Refused('a pointer that comes from nowhere: %s' % name)
 
 
-def read(path):
-    m = Module()
-    function, where = None, Places()
-    nulls = {}  # in an exported function: the steps from the question whether a parameter is null to the address that is put for it
+class Run:
+    """An exported function with all that it calls."""
 
-    def step(name):
-        return nulls.get(name, (None, None))[1]
+    def __init__(self, functions, constants, root):
+        self.functions = functions
+        self.objects = []
+        self.rules = []  # how pointers go from one place to another
+        self.uses, self.zeros, self.copies = [], [], []
+        self.constants = {name: {(self.object(name, 'constant', size, size), 0)} for name, size in constants.items()}
+        self.seen = set()
+        lent = [{(self.object('what C lends to %s as %s' % (root.name, name), 'lent'), ANYWHERE)} if name else None for name in root.parameters]
+        self.enter(root, lent, [])
+        while any([rule(*about) for rule, *about in self.rules]):
+            pass
+        self.use()
+        self.join()
 
-    for number, kind, match, text in lines(path):
-        if kind in ('exported', 'internal'):
-            function, exported, nulls = match['name'], kind == 'exported', {}
-            m.calls[function] = set()
-            where = Places((p.split()[-1], ((function, p.split()[-1]), 0)) for p in match['parameters'].split(', ') if p.startswith('ptr'))
-        elif kind == 'local':
-            where[match['to']] = ((function, match['to']), 0)
-            size = re.search(r'alloca (?:\[(\d+) x i8\]|(\w+))', text)
-            m.sizes[function, match['to']] = int(size[1]) if size[1] else WIDTH_32[size[2]]
-        elif kind == 'place':
-            base, offset = where[match['of']]
-            where[match['to']] = (base, offset + int(match['by']) if base != LOADED else 0)
-        elif kind == 'element':
-            if where[match['of']][0] != LOADED:
-                raise Refused('line %d: an element of a local variable: %s' % (number, text))
-            where[match['to']] = (LOADED, 0)
-        elif kind == 'is null':
-            if not exported:
-                raise Refused('line %d: a pointer is compared: %s' % (number, text))
-            nulls[match['to']] = (match['of'], 'asked')
-        elif kind == 'wider' and step(match['of']) == 'asked':
-            nulls[match['to']] = (nulls[match['of']][0], 'number')
-        elif kind == 'arithmetic' and step(match['of']) == 'number' and (match['what'], match['by']) == ('mul', '4096'):
-            nulls[match['to']] = (nulls[match['of']][0], 'moved')
-        elif kind == 'instead of null':
-            if nulls.get(match['by']) != (match['of'], 'moved'):
-                raise Refused('line %d: pointer arithmetic: %s' % (number, text))
-            where[match['to']] = where[match['of']]
-        elif nulls.keys() & set(re.findall(V, text)):
-            raise Refused('line %d: whether a pointer is null is used otherwise: %s' % (number, text))
-        elif kind == 'zeros':
-            m.zeros(where[match['into']], int(match['length']), number)
-        elif kind == 'load' and match['type'].startswith('{'):
-            for offset, part in parts(match['type']):
-                m.use((where[match['at']][0], where[match['at']][1] + offset), part, number)
-        elif kind == 'load':
-            m.use(where[match['at']], match['type'], number)
-            if match['type'] == 'ptr':
-                where[match['to']] = (LOADED, 0)
-        elif kind == 'store':
-            m.use(where[match['at']], match['type'], number)
-            if match['type'] == 'ptr':
-                m.stored.add(where[match['value']][0])
-        elif kind == 'copy':
-            into, of = where[match['into']], where[match['of']]
-            if LOADED in (into[0], of[0]):
-                raise Refused('line %d: a copy through a loaded pointer: %s' % (number, text))
-            m.same.append((*into, *of, int(match['length'])))
-            m.reach(into, int(match['length']))
-            m.reach(of, int(match['length']))
-        elif kind == 'call':
-            m.calls[function].add(match['name'])
-            for at, argument in enumerate(a for a in match['arguments'].split(', ') if a):
-                if argument.startswith('ptr '):
-                    m.same.append(((match['name'], '%%a%d' % at), 0, *where[argument.split()[-1]], None))
-    return m
+    def object(self, *about):
+        self.objects.append(Object(*about))
+        return self.objects[-1]
 
+    def enter(self, function, arguments, results):
+        """A call: sets of places for its arguments, and sets that its results are put into."""
+        self.seen.add(function.name)
+        values = Values(self.constants)
+        values.update((name, places) for name, places in zip(function.parameters, arguments) if name)
+        for kind, number, *about in function.steps:
+            if kind == 'local':
+                name, *sizes = about
+                values[name] = {(self.object('%s %s' % (function.name, name), 'local', *sizes), 0)}
+            elif kind == 'move':
+                name, of, by = about
+                values[name] = set()
+                self.rules.append((self.move, values[name], values[of], by, number))
+            elif kind == 'load':
+                name, at, found = about
+                values[name] = loaded = []
+                for offset, part in found:
+                    there = values[at]
+                    if offset:
+                        there = set()
+                        self.rules.append((self.move, there, values[at], offset, number))
+                    self.uses.append((there, part, False, number))
+                    loaded.append(set() if part == 'ptr' else None)
+                    if part == 'ptr':
+                        self.rules.append((self.load, loaded[-1], there))
+                if len(found) == 1:
+                    values[name] = loaded[0]
+            elif kind == 'use':
+                at, part = about
+                self.uses.append((values[at], part, True, number))
+            elif kind == 'store':
+                at, value = about
+                self.uses.append((values[at], 'ptr', True, number))
+                self.rules.append((self.store, values[at], values[value]))
+            elif kind == 'copy':
+                into, of, length = about
+                self.copies.append((values[into], values[of], length, number))
+                self.rules.append((self.copy, values[into], values[of], length))
+            elif kind == 'zeros':
+                into, length, here = about
+                self.zeros.append((values[into], length, here, number))
+            elif kind == 'fill':
+                into, length = about
+                for byte in range(length):
+                    there = set()
+                    self.rules.append((self.move, there, values[into], byte, number))
+                    self.uses.append((there, 'i8', True, number))
+            elif kind == 'call':
+                name, found, called, passed = about
+                inner = [set() if part == 'ptr' else None for _, part in found]
+                values[name] = inner if len(found) > 1 else inner[0] if found else None
+                self.enter(self.functions[called], [values[a] if a else None for a in passed], inner)
+            elif kind == 'part':
+                name, of, index = about
+                values[name] = values[of][index]
+            elif kind == 'return':
+                value = values[about[0]]
+                for to, of in zip(results, value if isinstance(value, list) else [value]):
+                    if to is not None:
+                        self.rules.append((add, to, of))
 
-def join(m):
-    """Types and zeros go over copies and calls, both ways, stored addresses over calls, and how far is read from a parameter to what is lent, until nothing changes."""
-    changed = True
-    while changed:
+    def move(self, to, of, by, number):
+        return add(to, {(o, o.moved(offset, by, number)) for o, offset in of})
+
+    def load(self, to, at):
+        return any([add(to, o.found(offset)) for o, offset in at])
+
+    def store(self, at, value):
+        return any([add(o.leads[offset], value) for o, offset in at])
+
+    def copy(self, into, of, length):
         changed = False
-        for a, i, b, j, length in m.same:
-            if LOADED in (a, b):
-                continue
-            if length is None and len({a, b} & m.stored) == 1:
-                m.stored |= {a, b}
-                changed = True
-            if length is None and m.used[b] < j + m.used[a]:
-                m.used[b] = j + m.used[a]
-                changed = True
-            for x, xi, y, yj in ((a, i, b, j), (b, j, a, i)):
-                for offset, zeros in list(m.zeroed[x]):
-                    begin, end = max(offset, xi), offset + zeros if length is None else min(offset + zeros, xi + length)
-                    there = (begin - xi + yj, end - begin)
-                    if begin < end and there not in m.zeroed[y]:
-                        m.zeroed[y].add(there)
-                        changed = True
-                for offset, types in list(m.types[x].items()):
-                    if offset >= xi and (length is None or offset < xi + length):
-                        to = m.types[y][offset - xi + yj]
-                        if not types <= to:
-                            to |= types
-                            changed = True
+        for o, offset in of:
+            for place, leads in list(o.leads.items()):
+                for to, begin in into:
+                    if ANYWHERE in (offset, place, begin):
+                        changed |= add(to.leads[ANYWHERE], leads)
+                    elif offset <= place < offset + length:
+                        changed |= add(to.leads[place - offset + begin], leads)
+        return changed
+
+    def use(self):
+        """Each place gets the types of its uses."""
+        for places, kind, written, number in self.uses:
+            for o, offset in places:
+                o.used(offset, WIDTH_32[kind], number, written)
+                o.types[offset].setdefault(kind, number)
+        for places, length, here, number in self.zeros:
+            for o, offset in places:
+                o.used(offset, here, number, True)
+                o.together[offset, length] = 'zeros'
+        self.same = defaultdict(set)  # object -> (offset, other object, offset there, length): places that a copy makes one
+        for into, of, length, number in self.copies:
+            for written, places in ((True, into), (False, of)):
+                for o, offset in places:
+                    o.used(offset, length, number, written)
+                    o.together[offset, length] = 'bytes copied'
+            for o, offset in into:
+                for other, there in of:
+                    self.same[o].add((offset, other, there, length))
+                    self.same[other].add((there, o, offset, length))
+
+    def join(self):
+        """Types go over copies, both ways, until nothing changes."""
+        todo = set(self.same)
+        while todo:
+            x = todo.pop()
+            for begin, y, to, length in self.same[x]:
+                for offset, types in list(x.types.items()):
+                    for kind, number in list(types.items()):
+                        for there in self.reached(offset, kind, begin, to, length):
+                            if kind not in y.types[there]:
+                                y.types[there][kind] = number
+                                todo.add(y)
+
+    @staticmethod
+    def reached(offset, kind, begin, to, length):
+        """Where a type comes by a copy; each place that it may come to, if it is not known from where."""
+        if to is ANYWHERE:
+            return [ANYWHERE] if ANYWHERE in (offset, begin) or begin <= offset < begin + length else []
+        if ANYWHERE in (offset, begin):
+            return range(to, to + length - WIDTH[kind] + 1)
+        return [offset - begin + to] if begin <= offset < begin + length else []
 
 
-def check_loaded(m):
-    """What a loaded pointer may lead to is used by single bytes alone: where one is passed on, and where an address was stored."""
-    passed = {a for a, i, b, j, length in m.same if b == LOADED}
-    for place in sorted((passed | m.stored) - {LOADED}):
-        for offset, types in m.types[place].items():
-            if types - {'i8'}:
-                raise Refused('%s %s: a loaded pointer may lead here, and %s is used at %d' % (*place, ' '.join(sorted(types)), offset))
-
-
-def check_places(m):
-    pointers = 0
-    for place, by_offset in m.types.items():
-        for offset, types in by_offset.items():
-            if 'ptr' not in types:
-                continue
-            pointers += 1
-            for other, used in by_offset.items():
-                for kind in used - ({'ptr'} if other == offset else set()):
-                    if other < offset + 8 and offset < other + WIDTH[kind]:
-                        raise Refused('%s %s: a pointer at %d, and %s at %d' % (*place, offset, kind, other))
-    return pointers
-
-
-def check_whole(m):
-    """Of a pointer all 8 bytes are zeroed or copied, or none."""
-    parts = [(place, begin, length, 'bytes copied') for a, i, b, j, length in m.same if length is not None for place, begin in ((a, i), (b, j))]
-    parts += [(place, *zeros, 'zeros') for place, found in m.zeroed.items() for zeros in sorted(found)]
-    for place, begin, length, what in parts:
-        for offset, types in m.types[place].items():
-            if 'ptr' in types and begin < offset + 8 and offset < begin + length and not begin <= offset <= begin + length - 8:
-                raise Refused('%s %s: a pointer at %d, and %d %s at %d' % (*place, offset, length, what, begin))
-
-
-def check_sizes(m):
-    for place, size in m.sizes.items():
-        if m.used[place] > size:
-            raise Refused('%s %s: has %d bytes on the target, and %d are used' % (*place, size, m.used[place]))
-
-
-def check_calls(m):
+def check_calls(functions):
     """The deepest chain; a function that comes back to itself is refused."""
     depths = {}
 
     def depth(name, path):
         if name in path:
             raise Refused('recursion: %s' % name)
-        if name not in m.calls:
+        if name not in functions:
             raise Refused('a function from outside: %s' % name)
         if name not in depths:
-            depths[name] = 1 + max((depth(called, path + (name,)) for called in m.calls[name]), default=0)
+            for called, *types in functions[name].calls:
+                if called in functions and types != [functions[called].type, *functions[called].types]:
+                    raise Refused('%s: called with other types than it has: %s' % (called, ' '.join(types)))
+            depths[name] = 1 + max((depth(called, path + (name,)) for called, *types in functions[name].calls), default=0)
         return depths[name]
 
-    return max(depth(name, ()) for name in list(m.calls))
+    return max((depth(name, ()) for name in functions), default=0)
 
 
 def main(path):
-    m = read(path)
-    depth = check_calls(m)  # without recursion what follows comes to an end
-    join(m)
-    check_loaded(m)
-    check_whole(m)
-    check_sizes(m)
-    print('%d places that hold pointers, 0 used as numbers too; %d functions, deepest chain %d' % (check_places(m), len(m.calls), depth))
+    functions, constants = read(path)
+    depth = check_calls(functions)  # without recursion what follows comes to an end
+    seen, pointers = set(), 0
+    for root in functions.values():
+        if root.exported:
+            run = Run(functions, constants, root)
+            pointers += sum(o.check() for o in run.objects)
+            seen |= run.seen
+    if functions.keys() - seen:
+        raise Refused('functions that nobody calls: %s' % ' '.join(sorted(functions.keys() - seen)))
+    print('%d places that hold pointers, 0 used as numbers too; %d functions, deepest chain %d' % (pointers, len(functions), depth))
 
 
 run(main)

@@ -1,2 +1,3 @@
-# to32: a pair of a number and a pointer is handed back
-0,/= load { i8, i16 }, ptr /s/= load { i8, i16 }, ptr /= load { i8, ptr }, ptr /
+# to32: a number in a pair is taken for a pointer
+# says: of another type than is said before
+0,/= load { i8, i[0-9]* }, ptr /s/= load { i8, i[0-9]* }, ptr /= load { i8, ptr }, ptr /

@@ -1,2 +1,3 @@
 # pointers: more than a byte is read through a pointer that was loaded
-0,/= getelementptr inbounds nuw i8, ptr %[a-z0-9]*, i64 %/s/^  \(%[a-z0-9]*\) = getelementptr inbounds nuw i8, ptr %[a-z0-9]*, i64 %.*/&\n  %word = load i16, ptr \1, align 1, !noundef !1/
+# says: what C lends to ch32_i2c_listen_step as %a0 is used as i16
+/^define noundef i64 @ch32_i2c_listen_step(/,/^}/s/^start:/&\n  %name = alloca ptr, align 8\n  store ptr %a0, ptr %name, align 8\n  %pointer = load ptr, ptr %name, align 8\n  %word = load i16, ptr %pointer, align 1/

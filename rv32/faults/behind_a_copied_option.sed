@@ -1,0 +1,3 @@
+# pointers: the same, where the option was copied and its pointer loaded
+# says: %slice: a pointer at 0, and i32 at 4
+/^define noundef i64 @ch32_i2c_listen_step(/,/^}/s/^start:/&\n  %slice = alloca [16 x i8], align 8\n  store ptr %a0, ptr %slice, align 8\n  %option = alloca [16 x i8], align 8\n  %there = getelementptr i8, ptr %option, i64 8\n  store ptr %slice, ptr %there, align 8\n  %copy = alloca [16 x i8], align 8\n  call void @llvm.memmove.p0.p0.i64(ptr %copy, ptr %option, i64 16, i1 false)\n  %again = getelementptr i8, ptr %copy, i64 8\n  %pointer = load ptr, ptr %again, align 8\n  %half = getelementptr i8, ptr %pointer, i64 4\n  store i32 0, ptr %half, align 4/
