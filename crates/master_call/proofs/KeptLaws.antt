@@ -27,8 +27,9 @@ use Rattle.master.specs.Fits.{fits, fits_found}
 use Rattle.master.specs.Calls.{setting_of, spans_by, shape_by, refusal_by}
 use Rattle.master.specs.Steps.{state_at, need_of, fits_lent, is_none}
 use Rattle.images.specs.MasterImage.{master_fields, master_of, master_in}
-use Rattle.asked.specs.Asked.{is_keep, need_number}
+use Rattle.asked.specs.Asked.{is_keep, kept_place, need_number}
 use Rattle.master_step.specs.Held.{Steps}
+use Rattle.master_step.proofs.KeepLaws.{place_at}
 use Rattle.master_step.proofs.StoreLaws.{goes_on}
 use Rattle.master_call.specs.CallStep.{held_in, is_open}
 use Rattle.master_call.proofs.CallLaws.{none_open}
@@ -61,6 +62,36 @@ module _ (s : State) (list : List ℕ) (w room a : ℕ) where
           (ap (λ (f : Option Run). need_number (need_of (state_at s.call (advance_at (setting_of s.call) (found_run f) s.stage s.progress a)))) (sym z) ∙ q)
       go None z =
           true≢false (sym (both_true (sym (ap (λ (f : Option Run). fits_found (setting_of s.call) f s.stage s.progress) z) ∙ fit) (keeps_open (need_of s) k)) ∙ none_open (setting_of s.call) s.stage s.progress)
+
+-- what is kept, by the place of a byte to keep
+kept_by : (x : Need) (p a : ℕ) (bytes : List ℕ) → kept_place x ≡ cond (is_keep x) (Some p) None → kept x a bytes ≡ cond (is_keep x) (set bytes p (field_of DATA a)) bytes
+kept_by (need.Keep q) p a bytes e = let z : q ≡ p = cc in ap (λ (m : ℕ). set bytes m (field_of DATA a)) z
+kept_by (need.Read r) p a bytes e = refl
+kept_by (need.Write r v) p a bytes e = refl
+kept_by need.Clock p a bytes e = refl
+kept_by (need.Send q) p a bytes e = refl
+kept_by need.Drop p a bytes e = refl
+kept_by (need.End x) p a bytes e = refl
+
+-- a byte to keep is stored exactly by a step that is taken: what it asks for tells it from a refused one
+module _ (s : State) (list : List ℕ) (w room a : ℕ) (b after read : List ℕ) (asked : Need) (n : ℕ)
+    (steps : Steps (is_open s list w room) s.call (advance_at (setting_of s.call) (run_of (shape_by s.call list w room) s.progress.run) s.stage s.progress a) b after asked)
+    (number : n ≡ need_number (need.End (failed InvalidState))) where
+  on : is_open s list w room ≡ true → is_keep (need_of s) ≡ true → need_number asked ≡ n → ⊥
+  on e k q = keeping_goes_on s list w room a (first_true (fits_lent s list w room) (not (is_end (need_of s))) e) k (sym (ap need_number (steps.taken e).owed) ∙ q ∙ number)
+
+  -- what the bytes read become
+  pub stored_is : cond (is_keep (need_of s) && not (eqb (need_number asked) n)) (set read s.progress.place (field_of DATA a)) read ≡ cond (is_open s list w room) (kept (need_of s) a read) read
+  stored_is = rw (kept_by (need_of s) s.progress.place a read (place_at (setting_of s.call) s.progress s.stage)) (go (is_open s list w room) (is_keep (need_of s)) (eqb (need_number asked) n) refl refl refl)
+    where
+      go : (v k u : Bool) → is_open s list w room ≡ v → is_keep (need_of s) ≡ k → eqb (need_number asked) n ≡ u
+          → cond (k && not u) (set read s.progress.place (field_of DATA a)) read ≡ cond v (cond k (set read s.progress.place (field_of DATA a)) read) read
+      go true false u e k q = refl
+      go false false u e k q = refl
+      go true true true e k q = absurd (on e k (eqb-true (need_number asked) n q))
+      go true true false e k q = refl
+      go false true true e k q = refl
+      go false true false e k q = absurd (eqb-false (need_number asked) n q (ap need_number (steps.refused e).ended ∙ sym number))
 
 -- the state that is found in a block is the one that it tells
 pub found_is : (entry : ℕ) (b : List ℕ) (s : State) → held_in entry b ≡ Some s → s ≡ master_of (fields_of b)
