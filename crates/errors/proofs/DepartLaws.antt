@@ -2,7 +2,7 @@
 -- Assumes nothing.
 use Prim.Native.Nat.{ℕ}
 use mathlib.Core.Path.{◌≡◌, refl, sym, ap, ◌∙◌, subst}
-use mathlib.Core.Bool.{Bool, true, false, cond, not, ◌&&◌, ◌||◌, true≢false}
+use mathlib.Core.Bool.{Bool, true, false, cond, not, ◌&&◌, ◌||◌, true≢false, and-false}
 use lib.Dec.{eqb}
 use borrow.Author.Tests.{eqb-true}
 use Rattle.std.specs.Prelude.{Option, Some, None, Err}
@@ -85,16 +85,12 @@ both_find chip nack w = (at_word chip nack w).both
 pub no_bus : (chip : Chip) (nack : Bool) (w : ℕ) → bus_flag chip w ≡ false → unflagged (error_of chip nack w) ≡ rust_of chip nack w
 no_bus chip nack w e = (at_word chip nack w).elsewhere (ap (λ (b : Bool). b && (not (has_bit ARLO w) && between_flag chip nack w)) e)
 
-and_false : (b : Bool) → b && false ≡ false
-and_false true = refl
-and_false false = refl
-
 pub class_is_the_rusts : ClassIsTheRusts
 class_is_the_rusts = record {
   exactly = λ chip nack w. (at_word chip nack w).exactly;
   bus = λ chip nack w. (at_word chip nack w).bus;
   elsewhere = λ chip nack w. (at_word chip nack w).elsewhere;
-  without_berr = λ chip nack w e. no_bus chip nack w (ap (λ (b : Bool). chip.ch32v4 && b) e ∙ and_false chip.ch32v4);
+  without_berr = λ chip nack w e. no_bus chip nack w (ap (λ (b : Bool). chip.ch32v4 && b) e ∙ and-false chip.ch32v4);
   without_ch32v4 = λ chip nack w e. no_bus chip nack w (ap (λ (b : Bool). b && has_bit BERR w) e);
 }
 

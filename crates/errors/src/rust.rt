@@ -38,9 +38,6 @@ pub fn as_the_rust(ending: Ending, chip: Chip, nack: bool) -> Ending
 {
     match ending {
         Ok(outcome) => ending::returned(outcome.value),
-        Err(failure) => {
-            let error = failure.error;
-            found(error, failure.flags, chip, nack)
-        }
+        Err(failure) => found(failure.error, failure.flags, chip, nack),
     }
 }

@@ -89,6 +89,12 @@ fn two_runs(written: u16, room: u16, number: u16) -> Option<Run>
     }
 }
 
+fn length_of(size: usize) -> Result<u16, Error>
+    ensures { result ≡ cond (ltb 65535 size) (Err error.BufferTooLong) (Ok size) }
+{
+    u16::try_from(size).or(Err(Error::BufferTooLong))
+}
+
 #[tactic(auto, unfolding(crate::specs::Look::look))]
 pub fn look_write_read(
     address: u16,
@@ -102,13 +108,10 @@ pub fn look_write_read(
         return Err(Error::Overrun);
     }
     validate_address(address)?;
-    if 65535 < written {
-        return Err(Error::BufferTooLong);
-    }
-    if 65535 - written < room {
-        return Err(Error::BufferTooLong);
-    }
-    Ok(two_runs(written as u16, room as u16, number))
+    let written = length_of(written)?;
+    let room = length_of(room)?;
+    written.checked_add(room).ok_or(Error::BufferTooLong)?;
+    Ok(two_runs(written, room, number))
 }
 
 // A frame, which is one run.
@@ -125,12 +128,10 @@ pub fn look_frame(
     if (direction == Direction::Read) & (size == 0) {
         return Err(Error::Overrun);
     }
-    if 65535 < size {
-        return Err(Error::BufferTooLong);
-    }
-    Ok(one_run(direction, size as u16, number))
+    Ok(one_run(direction, length_of(size)?, number))
 }
 
+// (A `match`: what each kind is lent differs.)
 #[tactic(auto, unfolding(crate::specs::Look::look))]
 pub fn look(
     kind: Kind,

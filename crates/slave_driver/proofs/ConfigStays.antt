@@ -42,6 +42,3 @@ module _ (c : SlaveConfig) where
 
   pub config_valid : Ok tt ≡ validated c → slave.init_refusal c ≡ none
   config_valid q = subst Says (sym q) says
-
-  pub config_refused : (e : Error) → Err e ≡ validated c → slave.init_refusal c ≡ some e
-  config_refused e q = subst Says (sym q) says

@@ -57,10 +57,7 @@ fn own_reserved(own: SlaveAddress) -> bool
 fn second_reserved(second: Option<u8>) -> bool
     ensures { result ≡ second_reserved second }
 {
-    match second {
-        None => false,
-        Some(b) => (b == 0) | is_reserved(b as u16),
-    }
+    second.is_some_and(|b| (b == 0) | is_reserved(b as u16))
 }
 
 #[tactic(auto, unfolding(slave::specs::Reserved::config_reserved))]

@@ -21,10 +21,7 @@ fn own_word(own: SlaveAddress) -> u16
 fn second_word(second: Option<u8>) -> u16
     ensures { result ≡ second_word_of second }
 {
-    match second {
-        None => 0,
-        Some(a) => addresses::second_address(a as u16),
-    }
+    second.map_or(0, |a| addresses::second_address(a as u16))
 }
 
 // The last word of CTLR1.
@@ -59,7 +56,6 @@ fn saving(state: InitState, stage: InitStage, word: u16) -> InitState
 pub fn owed(state: InitState) -> Need
     ensures { result ≡ owed state }
 {
-    let config = state.config;
     match state.stage {
         InitStage::DisableRead => Need::Read(Register::Ctlr1),
         InitStage::DisableWrite => {
@@ -69,10 +65,15 @@ pub fn owed(state: InitState) -> Need
         InitStage::BufferWrite => {
             Need::Write(Register::Ctlr2, word::clear_bit(state.saved, bits::ITBUFEN))
         }
-        InitStage::Own => Need::Write(Register::Oaddr1, own_word(config.address)),
-        InitStage::Second => Need::Write(Register::Oaddr2, second_word(config.second_address)),
+        InitStage::Own => Need::Write(Register::Oaddr1, own_word(state.config.address)),
+        InitStage::Second => Need::Write(
+            Register::Oaddr2,
+            second_word(state.config.second_address),
+        ),
         InitStage::EnableRead => Need::Read(Register::Ctlr1),
-        InitStage::EnableWrite => { Need::Write(Register::Ctlr1, enable_word(config, state.saved)) }
+        InitStage::EnableWrite => {
+            Need::Write(Register::Ctlr1, enable_word(state.config, state.saved))
+        }
         InitStage::Ended => Need::End(access::ending::done()),
     }
 }

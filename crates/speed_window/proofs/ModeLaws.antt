@@ -53,45 +53,39 @@ standard_mode = record {
   of_mode = λ n h k. le-ltb 100_000 n h;
 }
 
-fast_mode : Mode
-fast_mode = record {
-  factor = 3;
+-- both factors of fast mode, where mode and duty tell the factor
+fast_with : (factor : ℕ) (duty : Duty) → HasLimits factor 1 400_000 → factor_of true duty ≡ factor → cond (eqb factor 25) Duty16_9 Duty2_1 ≡ duty → same_duty duty Duty16_9 ≡ eqb factor 25 → not (eqb factor 2) ≡ true
+    → ((other : Duty) → document.is16_9 other ≡ eqb factor 25 → document.factor true other ≡ factor) → Mode
+fast_with factor duty limits factor_is duty_told duty_is mode_is told = record {
+  factor = factor;
   floor = 1;
   top = 400_000;
   quick = true;
-  duty = Duty2_1;
-  limits = fast_limits 3 (inl refl);
-  factor_is = refl;
+  duty = duty;
+  limits = limits;
+  factor_is = factor_is;
   floor_is = refl;
-  duty_told = refl;
-  duty_is = refl;
-  mode_is = refl;
+  duty_told = duty_told;
+  duty_is = duty_is;
+  mode_is = mode_is;
   top_small = omega arith;
   told = told;
-  of_mode = λ n h k. k;
+  of_mode = of_mode (eqb factor 2) mode_is;
 }
+  where
+    of_mode : (two : Bool) → not two ≡ true → (n : ℕ) → n ≤ 400_000 → (two || ltb 100_000 n) ≡ true → ltb 100_000 n ≡ true
+    of_mode true m n h k = absurd (true≢false (sym m))
+    of_mode false m n h k = k
+
+fast_mode : Mode
+fast_mode = fast_with 3 Duty2_1 (fast_limits 3 (inl refl)) refl refl refl refl told
   where
     told : (other : Duty) → document.is16_9 other ≡ false → document.factor true other ≡ 3
     told Duty2_1 e = refl
     told Duty16_9 e = absurd (true≢false e)
 
 fast_16_9_mode : Mode
-fast_16_9_mode = record {
-  factor = 25;
-  floor = 1;
-  top = 400_000;
-  quick = true;
-  duty = Duty16_9;
-  limits = fast_limits 25 (inr refl);
-  factor_is = refl;
-  floor_is = refl;
-  duty_told = refl;
-  duty_is = refl;
-  mode_is = refl;
-  top_small = omega arith;
-  told = told;
-  of_mode = λ n h k. k;
-}
+fast_16_9_mode = fast_with 25 Duty16_9 (fast_limits 25 (inr refl)) refl refl refl refl told
   where
     told : (other : Duty) → document.is16_9 other ≡ true → document.factor true other ≡ 25
     told Duty2_1 e = absurd (true≢false (sym e))
@@ -105,7 +99,7 @@ pub data OfMode (p : Pair) : Type 0 where
   of_mode : (m : Mode) → p ≡ pair m.factor p.divider → OfMode p
 
 pub mode_of : {input : ℕ} (p : Pair) → Allowed input p → OfMode p
-unfolding standard_mode fast_mode fast_16_9_mode
+unfolding standard_mode fast_mode fast_16_9_mode fast_with
 mode_of p (standard e a b c) = of_mode standard_mode (with_factor p e)
 mode_of p (fast (inl e) a b c d) = of_mode fast_mode (with_factor p e)
 mode_of p (fast (inr e) a b c d) = of_mode fast_16_9_mode (with_factor p e)

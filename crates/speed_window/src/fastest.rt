@@ -28,6 +28,7 @@ fn is_right(pair: Pair, input: u32, lowest: u32, highest: u32) -> bool
 
 // The dividers of the factor begin at the floor, and its speeds end at the top. The least divider that is slow enough makes the fastest
 // pair; if that is not right it is too slow, and so are all others.
+#[tactic(auto, using(crate::proofs::FormulaLaws::right_fastest, crate::proofs::FormulaLaws::wrong_fastest, crate::proofs::FormulaLaws::too_large))]
 pub fn fastest(
     factor: u16,
     floor: u64,

@@ -17,6 +17,7 @@ use Rattle.timing.specs.Rust.{timing}
 use Rattle.timing.specs.Document.{Documented, AsDocumented, settled, first_cause, factor, fast}
 use Rattle.timing.proofs.Documented.{documented}
 use Rattle.std.specs.Prelude.{Ok}
+use Rattle.timing.proofs.TimingLaws.{floor_small}
 
 -- 4, or fast 1, to 4095
 abbrev in_range : Timing → Bool
@@ -35,10 +36,6 @@ module _ (chip : Chip) (input frequency : ℕ) (duty : Duty) (t : Timing) (none-
       let h : input ≤ 4095 * factor (fast chip input frequency duty) duty * frequency =
       ltb-false (4095 * factor (fast chip input frequency duty) duty * frequency) input (last_cause (eqb frequency 0 || ltb 400_000 frequency) (chip.ch32v4 && ltb (input / 1_000_000) 4) (ltb (4095 * factor (fast chip input frequency duty) duty * frequency) input) InvalidFrequency InputTooSlow DividerTooLarge none-holds) in
       d.divider.least 4095 (record { reaches = h; allowed = floor_small (fast chip input frequency duty) })
-    where
-      floor_small : (b : Bool) → cond b 1 4 ≤ 4095
-      floor_small true = omega arith
-      floor_small false = omega arith
 
   documented_range : in_range t ≡ true
   documented_range =
