@@ -9,7 +9,8 @@ use crate::runs;
 // What a list may have in all, to write and to read.
 const MOST_BYTES: u32 = 65535;
 
-// A run: its direction, its length, the bytes of that direction before it, and whether another follows.
+// A run: its direction, its length, the bytes of that direction before it, and whether another follows. (No `Run` of crate `operations`: as 16-bit
+// numbers these do not stay in registers, which costs 16 instructions a step.)
 #[derive(Clone, Copy)]
 pub struct Found {
     pub reading: bool,

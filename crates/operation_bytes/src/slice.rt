@@ -14,6 +14,7 @@ fn first_257(operations: &[Operation]) -> &[Operation]
 }
 
 // The bytes of all, or of the first 257.
+#[tactic(auto, using(crate::proofs::EncodedLaws::none_encoded, crate::proofs::EncodedLaws::more_encoded, crate::proofs::EncodedLaws::has_room))]
 pub fn encode(operations: &[Operation]) -> ByteList
     ensures { result ≡ encoded (first257 operations.now) }
 {

@@ -1,19 +1,16 @@
--- The operations and the fault of what is left of a list, by what stands at a place.
+-- The operations of what is left of a list, by what stands at a place.
 -- Assumes nothing.
 use Prim.Native.Nat.{ℕ, suc, ◌+◌, ◌-◌, ◌≤◌, ◌<◌}
-use mathlib.Core.Path.{◌≡◌, refl, sym, ◌∙◌}
+use mathlib.Core.Path.{◌≡◌, refl}
 use mathlib.Core.Bool.{Bool, true, false, cond}
 use mathlib.Core.List.{List, [], ◌∷◌}
-use mathlib.Core.Option.{Option, none, some}
+use mathlib.Core.Option.{none, some}
 use native.Mathlib.Numerals.{add-one, add-two, add-three}
 use native.Mathlib.Omega.{arith}
-use borrow.Author.Tests.{lt-ltb, le-ltb, ltb-false}
 use lib.Dec.{ltb}
-use lib.ListN.{length, get_or, drop, drop_of_length-le, length-drop}
+use lib.ListN.{length, get_or, drop, length-drop}
 use lib.Seq.{drop-cons}
-use Rattle.access.specs.declared.ending.Error.{Error}
 use Rattle.access.specs.declared.ending.Error.TheVariants.{Overrun, BufferTooLong, InvalidArgument}
-use Rattle.operations.specs.declared.operation.Operation.{Operation}
 use Rattle.operations.specs.Operations.{empty_read, word_of, operation_of, operation_at, operations_of, shaped}
 use Rattle.operations.specs.Search.{fault_from}
 
@@ -33,76 +30,13 @@ short_operations (a ∷ []) h = refl
 short_operations (a ∷ b ∷ []) h = refl
 short_operations (a ∷ b ∷ c ∷ l) h = absurd (omega arith)
 
-short_fault : (t : ℕ) (l : List ℕ) → 0 < length l → length l < 3 → fault_from t l ≡ some InvalidArgument
-unfolding fault_from
-short_fault t [] p h = absurd (omega arith)
-short_fault t (a ∷ []) p h = refl
-short_fault t (a ∷ b ∷ []) p h = refl
-short_fault t (a ∷ b ∷ c ∷ l) p h = absurd (omega arith)
-
-short_shape : (l : List ℕ) → 0 < length l → length l < 3 → shaped l ≡ false
-unfolding shaped
-short_shape [] p h = absurd (omega arith)
-short_shape (a ∷ []) p h = refl
-short_shape (a ∷ b ∷ []) p h = refl
-short_shape (a ∷ b ∷ c ∷ l) p h = absurd (omega arith)
-
 module _ (l : List ℕ) (at : ℕ) where
   pub no_operation : length l - at < 3 → operations_of (drop at l) ≡ []
   no_operation h = short_operations (drop at l) (omega (arith, length-drop at l))
 
-  pub no_fault : (t : ℕ) → length l ≤ at → fault_from t (drop at l) ≡ none
-  unfolding fault_from
-  no_fault t h = rw (drop_of_length-le l h)
-
-  pub part_fault : (t : ℕ) → at < length l → length l - at < 3 → fault_from t (drop at l) ≡ some InvalidArgument
-  part_fault t p h = short_fault t (drop at l) (omega (arith, length-drop at l)) (omega (arith, length-drop at l))
-
-  pub end_shaped : length l ≤ at → shaped (drop at l) ≡ true
-  unfolding shaped
-  end_shaped h = rw (drop_of_length-le l h)
-
-  pub part_shape : at < length l → length l - at < 3 → shaped (drop at l) ≡ false
-  part_shape p h = short_shape (drop at l) (omega (arith, length-drop at l)) (omega (arith, length-drop at l))
-
-  module _ (h : at + 3 ≤ length l) where
-    pub operation_first : operations_of (drop at l) ≡ operation_at l at ∷ operations_of (drop (at + 3) l)
-    unfolding operations_of
-    operation_first = rw (three l at h)
-
-    pub shape_first : shaped (drop at l) ≡ cond (ltb 1 (get_or l at 0)) false (shaped (drop (at + 3) l))
-    unfolding shaped
-    shape_first = rw (three l at h)
-
-    -- the fault by the first operation
-    module _ (t d : ℕ) (o : Operation) (ed : get_or l at 0 ≡ d) (eo : o ≡ operation_at l at) where
-      abbrev after : Bool → Bool → Bool → Option Error
-      after large empty long =
-          cond large (some InvalidArgument) (cond empty (some Overrun) (cond long (some BufferTooLong) (fault_from (t + o.length) (drop (at + 3) l))))
-
-      fault_first : fault_from t (drop at l) ≡ after (ltb 1 d) (empty_read o) (ltb 65535 (t + o.length))
-      unfolding fault_from
-      fault_first = rw (three l at h, eo, ← ed)
-
-      pub fault_direction : 1 < d → fault_from t (drop at l) ≡ some InvalidArgument
-      fault_direction p = fault_first ∙ rw (lt-ltb 1 d p)
-
-      pub fault_empty : d ≤ 1 → empty_read o ≡ true → fault_from t (drop at l) ≡ some Overrun
-      fault_empty p q = fault_first ∙ rw (le-ltb 1 d p, q)
-
-      pub fault_total : d ≤ 1 → empty_read o ≡ false → 65535 < t + o.length → fault_from t (drop at l) ≡ some BufferTooLong
-      fault_total p q r = fault_first ∙ rw (le-ltb 1 d p, q, lt-ltb 65535 (t + o.length) r)
-
-      pub fault_next : d ≤ 1 → empty_read o ≡ false → t + o.length ≤ 65535 → fault_from t (drop at l) ≡ fault_from (t + o.length) (drop (at + 3) l)
-      fault_next p q r = fault_first ∙ rw (le-ltb 1 d p, q, le-ltb 65535 (t + o.length) r)
-
-      -- where there is no fault, the direction is 0 or 1
-      pub direction_small : fault_from t (drop at l) ≡ none → d ≤ 1
-      direction_small z = go (ltb 1 d) refl (sym fault_first ∙ z)
-        where
-          go : (b : Bool) → ltb 1 d ≡ b → after b (empty_read o) (ltb 65535 (t + o.length)) ≡ none → d ≤ 1
-          go true e q = let z : ◌≡◌ {A = ℕ} 0 1 = cc in absurd (omega arith)
-          go false e q = ltb-false 1 d e
+  pub operation_first : at + 3 ≤ length l → operations_of (drop at l) ≡ operation_at l at ∷ operations_of (drop (at + 3) l)
+  unfolding operations_of
+  operation_first h = rw (three l at h)
 
 -- a list without a fault has the form of a list
 pub fault_free_shaped : (l : List ℕ) (t : ℕ) → fault_from t l ≡ none → shaped l ≡ true

@@ -1,4 +1,5 @@
 pub mod Operations
 pub mod Runs
 pub mod Tally
+pub mod Seen
 pub mod Search

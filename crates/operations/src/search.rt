@@ -2,10 +2,11 @@
 ghost use Rattle.std.specs.Prelude.{◌≡◌, ◌+◌, ◌≤◌, length};
 ghost use Rattle.operations.specs.Runs.{span};
 ghost use Rattle.operations.specs.Tally.{found_with, passed};
+ghost use Rattle.operations.specs.Seen.{bytes_of, added, ended};
 ghost use Rattle.operations.specs.Search.{goes_on, validate_operations};
 
 use crate::operation;
-use crate::operation::Direction;
+use crate::operation::{Direction, Operation};
 use access::Error;
 
 // A run: its direction, the sum of its lengths, the bytes of that direction before it, and whether another run follows.
@@ -87,61 +88,86 @@ pub fn goes_on(list: &[u8], at: usize, direction: Direction) -> bool
     (list[at] <= 1) & (direction == next.direction)
 }
 
+// What the operations so far come to: the runs that are ended, and the one that may go on.
+#[derive(Clone, Copy)]
+pub struct Seen {
+    pub ended: Tally,
+    pub run: Option<Operation>,
+}
+
+// An operation goes on with the open run, or ends it and opens its own.
+fn added(seen: Seen, operation: Operation) -> Seen
+    requires { bytes_of seen + operation.length ≤ 65535 }
+    ensures { result ≡ added seen operation }
+{
+    match seen.run {
+        None => Seen {
+            run: Some(operation),
+            ..seen
+        },
+        Some(run) if run.direction == operation.direction => Seen {
+            run: Some(Operation {
+                length: run.length + operation.length,
+                ..run
+            }),
+            ..seen
+        },
+        Some(run) => Seen {
+            ended: passed(seen.ended, run.direction, run.length, true),
+            run: Some(operation),
+        },
+    }
+}
+
+// The open run ends with the list.
+fn ended(seen: Seen) -> Tally
+    requires { bytes_of seen ≤ 65535 }
+    ensures { result ≡ ended seen }
+{
+    match seen.run {
+        None => seen.ended,
+        Some(run) => passed(seen.ended, run.direction, run.length, false),
+    }
+}
+
 // The Rust's `validate_operations`, left from inside at the first fault: an operation that is none (16), an empty read (6),
 // or a total above 65,535 (8). A list without a fault has its sums, and the run of a number.
 pub fn validate_operations(list: &[u8], number: u16) -> Result<(Sums, Option<Run>), Error>
     ensures { result ≡ validate_operations list.now number }
 {
-    let mut at: usize = 0;
+    let (operations, end) = list.as_chunks::<3>();
     let mut total: u32 = 0;
-    let mut tally = Tally {
-        written: 0,
-        read: 0,
-        ahead: number as u32 + 1,
-        found: None,
+    let mut seen = Seen {
+        ended: Tally {
+            written: 0,
+            read: 0,
+            ahead: number as u32 + 1,
+            found: None,
+        },
+        run: None,
     };
-    'runs: loop {
-        if list.len() <= at {
-            let found = tally.found;
-            break 'runs Ok((
-                Sums {
-                    written: tally.written,
-                    read: tally.read,
-                },
-                found,
-            ));
+    for bytes in operations {
+        if 1 < bytes[0] {
+            return Err(Error::InvalidArgument);
         }
-        if list.len() - at < 3 {
-            break 'runs Err(Error::InvalidArgument);
+        let operation = operation::operation_at(bytes, 0);
+        if operation::is_empty_read(operation) {
+            return Err(Error::Overrun);
         }
-        let direction = list[at];
-        if 1 < direction {
-            break 'runs Err(Error::InvalidArgument);
+        total += operation.length as u32;
+        if 65535 < total {
+            return Err(Error::BufferTooLong);
         }
-        let start = total;
-        loop {
-            let operation = operation::operation_at(list, at);
-            if operation::is_empty_read(operation) {
-                break 'runs Err(Error::Overrun);
-            }
-            total += operation.length as u32;
-            if 65535 < total {
-                break 'runs Err(Error::BufferTooLong);
-            }
-            at += 3;
-            if list.len() - at < 3 {
-                break;
-            }
-            let going = operation.direction;
-            if !goes_on(list, at, going) {
-                break;
-            }
-        }
-        tally = passed(
-            tally,
-            Direction::from(direction),
-            (total - start) as u16,
-            3 <= list.len() - at,
-        );
+        seen = added(seen, operation);
     }
+    if !end.is_empty() {
+        return Err(Error::InvalidArgument);
+    }
+    let Tally {
+        written,
+        read,
+        found,
+        ..
+    } = ended(seen);
+    Ok((Sums { written, read }, found))
 }
