@@ -2,26 +2,25 @@
 -- Assumes nothing.
 use Prim.Native.Nat.{ℕ, ◌<◌}
 use mathlib.Core.Path.{◌≡◌, refl, sym, ap, subst, ◌∙◌}
-use mathlib.Core.Bool.{Bool, true, ◌&&◌}
+use mathlib.Core.Bool.{true, ◌&&◌}
 use lib.Dec.{eqb}
 use borrow.Author.Tests.{eqb-true}
 use mathlib.Core.List.{List}
 use lib.ListN.{get_or}
-use Rattle.access.specs.Endings.{Ending, words_number, ending_of, ending_error, ending_value, ending_extra, is_ending}
+use Rattle.access.specs.Endings.{Ending, ending_number, words_number, ending_of, ending_error, ending_value, ending_extra, is_ending}
 use Rattle.access.proofs.Choice.{first_true, second_true}
 use Rattle.access.proofs.Compared.{itself}
-use Rattle.access.proofs.EndingLaws.{words_hold, ending_back}
+use Rattle.access.proofs.EndingLaws.{words_hold, ending_back, end_kind, number_in}
 use Rattle.access.specs.declared.need.Need.TheVariants.{End}
 use Rattle.block.specs.Bytes32.{word_at}
 use Rattle.images.specs.EndImage.{KeepsEnd, is_ending_at}
 use Rattle.asked.specs.Asked.{Asks, need_of, need_number}
-use Rattle.asked.proofs.NeedLaws.{asks_kept}
 
-pub ended : {b : List ℕ} {e : Ending} {number n v x : ℕ} → number ≡ words_number n v x → n ≡ get_or b 7 0 → v ≡ word_at b 22 → x ≡ word_at b 30 → v < 65536 → x < 65536 → KeepsEnd b e → Asks number (End e)
-ended {e = e} q p r t h k w =
-    let value = r ∙ w.value in
-    let extra = t ∙ w.extra in
-    record { number = rw (q, p ∙ w.error, value, extra); words = words_hold e (subst (λ (m : ℕ). m < 65536) value h) (subst (λ (m : ℕ). m < 65536) extra k) }
+-- a number that asks for an end is that of what it says
+asks_kept : (n : ℕ) (e : Ending) → Asks n (End e) → need_number (need_of n) ≡ n
+asks_kept n e a =
+    let back : need_of (ending_number e) ≡ End e = rw (end_kind e a.words) (ap End (number_in e a.words)) in
+    ap need_number (ap need_of a.number ∙ back) ∙ sym a.number
 
 -- words that are an end's are a number that asks for it
 pub words_ask : (n v x : ℕ) → v < 65536 → x < 65536 → is_ending n v x ≡ true → Asks (words_number n v x) (End (ending_of n v x))
@@ -40,7 +39,6 @@ keeps_words b e w =
     let back : ending_of (get_or b 7 0) (word_at b 22) (word_at b 30) ≡ e = (λ i. ending_of (w.error i) (w.value i) (w.extra i)) ∙ ending_back e in
     rw (back, sym w.error, sym w.value, sym w.extra, itself (get_or b 7 0), itself (word_at b 22), itself (word_at b 30)) refl
 
--- the number of the words that a block keeps, where they are an end's, is that of what it says
-pub number_kept : (b : List ℕ) {number v x : ℕ} → number ≡ words_number (get_or b 7 0) v x → v ≡ word_at b 22 → x ≡ word_at b 30 → v < 65536 → x < 65536 → is_ending_at b ≡ true → need_number (need_of number) ≡ number
-number_kept b {number} {v} {x} q r t h k e =
-    asks_kept number (End (ending_of (get_or b 7 0) v x)) (subst (λ (m : ℕ). Asks m (End (ending_of (get_or b 7 0) v x))) (sym q) (words_ask (get_or b 7 0) v x h k (rw (r, t) e)))
+-- the number of an end's words is that of what it says
+pub words_kept : (n v x : ℕ) → v < 65536 → x < 65536 → is_ending n v x ≡ true → need_number (need_of (words_number n v x)) ≡ words_number n v x
+words_kept n v x h k e = asks_kept (words_number n v x) (ending_of n v x) (words_ask n v x h k e)

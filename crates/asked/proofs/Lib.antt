@@ -1,3 +1,1 @@
 pub mod EndLaws
-pub mod KeptLaws
-pub mod NeedLaws

@@ -2,26 +2,29 @@
 // the number, and contracts see the enum that it stands for.
 #![tactic(auto)]
 
-ghost use Rattle.std.specs.Prelude.{◌≡◌, Bool, eqb, length};
+ghost use Rattle.std.specs.Prelude.{◌≡◌, Bool, eqb};
 ghost use Rattle.access.specs.declared.ending.Error.TheVariants.{InvalidState};
 ghost use Rattle.access.specs.declared.need.Need.TheVariants as need;
 ghost use Rattle.access.specs.Endings.{Ending, done, failed};
-ghost use Rattle.block.specs.Bytes32.{block_size};
+ghost use Rattle.access.specs.Machine.{filled};
+ghost use Rattle.access.specs.Numbers.{next_number, HoldsWords};
 ghost use Rattle.images.specs.EndImage.{KeepsEnd};
 ghost use Rattle.asked.specs.Asked.{need_number, NeedHoldsWords};
 
-use access::{Ending, Error, Need, ending};
-use block::{at, bytes32};
+use access::{Ending, Error, Need, ending, lent};
 use images::end_image;
-use registers::{Register, register};
+use registers::Register;
 use std::marker::Model;
 
-// The kinds beside C's: a byte to send, one to keep, and one to drop (in slave calls).
+// The kinds beside C's: a byte to send, one to keep, and one to drop (in slave calls). (Numbers: with C's kinds they are a part of one number.)
 const SEND: u64 = 4;
 
 const KEEP: u64 = 5;
 
 const DROP: u64 = 6;
+
+// What a refused step asks for: the end 15.
+const REFUSED: u64 = 15 * 256;
 
 #[derive(Clone, Copy)]
 pub struct Asked {
@@ -45,19 +48,21 @@ impl Model for Asked {
 }
 
 impl Asked {
+    #[tactic(auto, using(registers::proofs::NumberLaws::register_back, registers::proofs::NumberLaws::register_below, access::proofs::NumberLaws::kind_of_read, access::proofs::NumberLaws::code_of_read))]
     pub fn read(register: Register) -> Asked
         ensures { result ≡ need.Read register }
     {
         Asked {
-            number: 1 + register::number(register) as u64 * 256,
+            number: 1 + u8::from(register) as u64 * 256,
         }
     }
 
+    #[tactic(auto, using(registers::proofs::NumberLaws::register_back, registers::proofs::NumberLaws::register_below, access::proofs::NumberLaws::kind_of_write, access::proofs::NumberLaws::code_of_write, access::proofs::NumberLaws::value_of_write))]
     pub fn write(register: Register, value: u16) -> Asked
         ensures { result ≡ need.Write register value }
     {
         Asked {
-            number: 2 + register::number(register) as u64 * 256 + value as u64 * 65536,
+            number: 2 + u8::from(register) as u64 * 256 + value as u64 * 65536,
         }
     }
 
@@ -100,6 +105,7 @@ impl Asked {
     }
 
     // The call ends like this.
+    #[tactic(auto, using(access::proofs::EndingLaws::end_kind, access::proofs::EndingLaws::number_in))]
     pub fn end(ending: Ending) -> Asked
         ensures { result ≡ need.End ending }
     {
@@ -109,19 +115,16 @@ impl Asked {
     }
 
     // The call ends with the end that its block keeps.
-    pub fn ended(block: &[u8]) -> Asked
-        requires { length block.now ≡ block_size }
+    #[tactic(auto, using(crate::proofs::EndLaws::words_kept))]
+    pub fn ended(block: &[u8; 32]) -> Asked
         ensures { (e : Ending) → KeepsEnd block.now e → result ≡ need.End e }
     {
-        if !end_image::is_ending(block) {
+        let words = end_image::words(block);
+        if !words.is_ending() {
             return Asked::refused();
         }
         Asked {
-            number: ending::words_number(
-                block[at::ERROR],
-                bytes32::word_at(block, at::VALUE),
-                bytes32::word_at(block, at::EXTRA),
-            ),
+            number: words.number(),
         }
     }
 
@@ -136,29 +139,14 @@ impl Asked {
     pub fn refused() -> Asked
         ensures { result ≡ need.End (failed InvalidState) }
     {
-        Asked { number: 15 * 256 }
+        Asked { number: REFUSED }
     }
 
     // Whether it is what a refused step asks for.
     pub fn is_refused(self) -> bool
         ensures { result ≡ eqb (need_number self) (need_number (need.End (failed InvalidState))) }
     {
-        self.number == 15 * 256
-    }
-
-    // The same as the enum.
-    pub fn of(need: Need) -> Asked
-        ensures { result ≡ need }
-    {
-        match need {
-            Need::Read(register) => Asked::read(register),
-            Need::Write(register, value) => Asked::write(register, value),
-            Need::Clock => Asked::clock(),
-            Need::Send(place) => Asked::send(place),
-            Need::Keep(place) => Asked::keep(place),
-            Need::Drop => Asked::drop(),
-            Need::End(ending) => Asked::end(ending),
-        }
+        self.number == REFUSED
     }
 
     // The number.
@@ -169,21 +157,55 @@ impl Asked {
         self.number
     }
 
-    // The enum.
-    pub fn need(self) -> Need
-        ensures { result ≡ self }
+    // C's number. Payload goes out here alone: the byte to send is put in from the bytes lent, and one to keep or to drop is a read of DATAR.
+    pub fn shown(self, written: &[u8]) -> u64
+        ensures value { result ≡ next_number (filled written.now self) }
+        ensures holds_words { HoldsWords (filled written.now self) }
     {
-        let asked = self.number;
-        let code = (asked / 256 % 256) as u8;
-        let value = (asked / 65536 % 65536) as u16;
-        let place = (asked / 65536 % 4294967296) as u32;
-        match asked % 256 {
-            0 => Need::End(ending::ending_in(asked)),
-            1 => Need::Read(register::of_number(code)),
-            2 => Need::Write(register::of_number(code), value),
+        let kind = self.number % 256;
+        if kind < SEND {
+            return self.number;
+        }
+        if kind == SEND {
+            let place = (self.number / 65536 % 4294967296) as u32;
+            let byte = lent::byte_at(written, place);
+            return Asked::write(Register::Datar, byte as u16).number;
+        }
+        Asked::read(Register::Datar).number
+    }
+}
+
+impl From<Need> for Asked {
+    ghost from_gives = { λ n a. a ≡ n };
+
+    fn from(need: Need) -> Asked {
+        match need {
+            Need::Read(register) => Asked::read(register),
+            Need::Write(register, value) => Asked::write(register, value),
+            Need::Clock => Asked::clock(),
+            Need::Send(place) => Asked::send(place),
+            Need::Keep(place) => Asked::keep(place),
+            Need::Drop => Asked::drop(),
+            Need::End(ending) => Asked::end(ending),
+        }
+    }
+}
+
+impl From<Asked> for Need {
+    ghost from_gives = { λ a n. n ≡ a };
+
+    fn from(asked: Asked) -> Need {
+        let number = asked.number;
+        let code = (number / 256 % 256) as u8;
+        let value = (number / 65536 % 65536) as u16;
+        let place = (number / 65536 % 4294967296) as u32;
+        match number % 256 {
+            0 => Need::End(ending::ending_in(number)),
+            1 => Need::Read(code.into()),
+            2 => Need::Write(code.into(), value),
             3 => Need::Clock,
-            4 => Need::Send(place),
-            5 => Need::Keep(place),
+            SEND => Need::Send(place),
+            KEEP => Need::Keep(place),
             _ => Need::Drop,
         }
     }

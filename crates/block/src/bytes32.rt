@@ -1,18 +1,12 @@
 // The 32 bytes of a block, numbers low byte first.
-ghost use Rattle.std.specs.Prelude.{◌≡◌, ◌+◌, ◌*◌, ◌%◌, ◌/◌, ◌≤◌, ℕ, List, length};
-ghost use Rattle.block.specs.Bytes32.{word_at, with_word, long_at, fields_of, bytes_of, block_size};
+ghost use Rattle.std.specs.Prelude.{◌≡◌, ◌+◌, ◌≤◌, ℕ, List};
+ghost use Rattle.block.specs.Bytes32.{word_at, with_word, long_at, with_long, at_phase, at_stage, fields_of, bytes_of, block_size};
 
 use crate::at;
 use crate::fields::Fields;
 
 // The length of a block, in every call.
 pub const BLOCK_SIZE: usize = 32;
-
-fn word(low: u8, high: u8) -> u16
-    ensures { result ≡ low + high * 256 }
-{
-    low as u16 + high as u16 * 256
-}
 
 // A block as its caller lends it: 32 bytes.
 pub trait Block {
@@ -31,22 +25,50 @@ pub trait Block {
     fn put_word(&mut self, at: usize, word: u16)
         requires { at + 2 ≤ block_size }
         ensures { bytes self.new ≡ with_word (bytes self.old) at word };
+
+    fn put_long(&mut self, at: usize, long: u32)
+        requires { at + 4 ≤ block_size }
+        ensures { bytes self.new ≡ with_long (bytes self.old) at long };
+
+    // On to another stage.
+    fn to(&mut self, group: u8, what: u8, phase: u8)
+        ensures { bytes self.new ≡ at_stage group what phase (bytes self.old) };
+
+    // On to another phase of the stage.
+    fn phase(&mut self, phase: u8)
+        ensures { bytes self.new ≡ at_phase phase (bytes self.old) };
 }
 
 impl Block for [u8; 32] {
     ghost bytes = { λ block. block };
 
     fn word(&self, at: usize) -> u16 {
-        word(self[at], self[at + 1])
+        u16::from_le_bytes([self[at], self[at + 1]])
     }
 
     fn long(&self, at: usize) -> u32 {
-        self.word(at) as u32 + self.word(at + 2) as u32 * 65536
+        u32::from_le_bytes([self[at], self[at + 1], self[at + 2], self[at + 3]])
     }
 
     fn put_word(&mut self, at: usize, word: u16) {
-        self[at] = (word % 256) as u8;
-        self[at + 1] = (word / 256) as u8;
+        let [low, high] = word.to_le_bytes();
+        self[at] = low;
+        self[at + 1] = high;
+    }
+
+    fn put_long(&mut self, at: usize, long: u32) {
+        self.put_word(at, (long % 65536) as u16);
+        self.put_word(at + 2, (long / 65536) as u16);
+    }
+
+    fn to(&mut self, group: u8, what: u8, phase: u8) {
+        self[at::GROUP] = group;
+        self[at::WHAT] = what;
+        self[at::PHASE] = phase;
+    }
+
+    fn phase(&mut self, phase: u8) {
+        self[at::PHASE] = phase;
     }
 }
 
@@ -87,109 +109,27 @@ impl From<Fields> for [u8; 32] {
 
     #[tactic(auto, unfolding(crate::specs::Bytes32::bytes_of))]
     fn from(f: Fields) -> [u8; 32] {
-        [
-            f.entry,
-            f.chip,
-            f.option,
-            f.stage,
-            f.what,
-            f.phase,
-            f.marks,
-            f.error,
-            (f.address % 256) as u8,
-            (f.address / 256) as u8,
-            (f.run % 256) as u8,
-            (f.run / 256) as u8,
-            (f.left % 256) as u8,
-            (f.left / 256) as u8,
-            (f.place % 256) as u8,
-            (f.place / 256) as u8,
-            (f.word % 256) as u8,
-            (f.word / 256) as u8,
-            (f.divider % 256) as u8,
-            (f.divider / 256) as u8,
-            (f.rise % 256) as u8,
-            (f.rise / 256) as u8,
-            (f.value % 256) as u8,
-            (f.value / 256) as u8,
-            (f.count % 65536 % 256) as u8,
-            (f.count % 65536 / 256) as u8,
-            (f.count / 65536 % 256) as u8,
-            (f.count / 65536 / 256) as u8,
-            f.second,
-            f.mhz,
-            (f.extra % 256) as u8,
-            (f.extra / 256) as u8,
-        ]
-    }
-}
-
-// ---- the same, of a slice that is as long as a block
-
-pub fn word_at(block: &[u8], at: usize) -> u16
-    requires { at + 2 ≤ length block.now }
-    ensures { result ≡ word_at block.now at }
-{
-    word(block[at], block[at + 1])
-}
-
-pub fn long_at(block: &[u8], at: usize) -> u32
-    requires { at + 4 ≤ length block.now }
-    ensures { result ≡ long_at block.now at }
-{
-    word_at(block, at) as u32 + word_at(block, at + 2) as u32 * 65536
-}
-
-// A word, low byte first, in two bytes from a place on.
-#[tactic(auto, using(crate::proofs::Codec::set_length))]
-pub fn put_word(block: &mut [u8], at: usize, word: u16)
-    requires block_len { length block.old ≡ block_size }
-    requires at_bound { at + 2 ≤ block_size }
-    ensures block_len_2 { length block.new ≡ block_size }
-    ensures block_after { block.new ≡ with_word block.old at word }
-{
-    block[at] = (word % 256) as u8;
-    block[at + 1] = (word / 256) as u8;
-}
-
-// What a block says.
-#[tactic(auto, unfolding(crate::specs::Bytes32::fields_of))]
-pub fn fields(block: &[u8]) -> Fields
-    requires { length block.now ≡ block_size }
-    ensures { result ≡ fields_of block.now }
-{
-    Fields {
-        entry: block[at::ENTRY],
-        chip: block[at::CHIP],
-        option: block[at::OPTION],
-        stage: block[at::GROUP],
-        what: block[at::WHAT],
-        phase: block[at::PHASE],
-        marks: block[at::MARKS],
-        error: block[at::ERROR],
-        address: word_at(block, at::ADDRESS),
-        run: word_at(block, at::RUN),
-        left: word_at(block, at::LEFT),
-        place: word_at(block, at::PLACE),
-        word: word_at(block, at::WORD),
-        divider: word_at(block, at::DIVIDER),
-        rise: word_at(block, at::RISE),
-        value: word_at(block, at::VALUE),
-        count: long_at(block, at::COUNT),
-        second: block[at::SECOND],
-        mhz: block[at::MHZ],
-        extra: word_at(block, at::EXTRA),
-    }
-}
-
-// Leaves in a block what it is to say.
-pub fn put(block: &mut [u8], f: Fields)
-    requires { length block.old ≡ block_size }
-    ensures { block.new ≡ bytes_of f }
-{
-    let bytes = <[u8; 32]>::from(f);
-    // by hand: `copy_from_slice` makes slices in memory, which the conversion to RV32 refuses
-    for i in 0..BLOCK_SIZE {
-        block[i] = bytes[i];
+        let mut block = [0; BLOCK_SIZE];
+        block[at::ENTRY] = f.entry;
+        block[at::CHIP] = f.chip;
+        block[at::OPTION] = f.option;
+        block[at::GROUP] = f.stage;
+        block[at::WHAT] = f.what;
+        block[at::PHASE] = f.phase;
+        block[at::MARKS] = f.marks;
+        block[at::ERROR] = f.error;
+        block.put_word(at::ADDRESS, f.address);
+        block.put_word(at::RUN, f.run);
+        block.put_word(at::LEFT, f.left);
+        block.put_word(at::PLACE, f.place);
+        block.put_word(at::WORD, f.word);
+        block.put_word(at::DIVIDER, f.divider);
+        block.put_word(at::RISE, f.rise);
+        block.put_word(at::VALUE, f.value);
+        block.put_long(at::COUNT, f.count);
+        block[at::SECOND] = f.second;
+        block[at::MHZ] = f.mhz;
+        block.put_word(at::EXTRA, f.extra);
+        block
     }
 }

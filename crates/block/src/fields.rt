@@ -1,8 +1,9 @@
-// What a block says, number by number: one layout for all calls. docs/STATE.md says which call uses what.
+// What a block says, number by number: one layout for all calls. docs/STATE.md says which call uses what. (Numbers and no enums: any bytes
+// may stand in a block, and its layout is part of the interface with C.)
 ghost use Rattle.std.specs.Prelude.{◌≡◌};
 ghost use Rattle.block.specs.Fields.{same_fields};
 
-#[derive(Clone, Copy, PartialEq, Eq)]
+#[derive(Clone, Copy, PartialEq, Eq, Default)]
 pub struct Fields {
     // The entry: 1 to 9, in the order of the C header.
     pub entry: u8,
@@ -36,7 +37,7 @@ pub struct Fields {
     pub extra: u16,
 }
 
-// Whether two blocks say the same.
+// Whether two blocks say the same. (A name for `==`, which the states and their images share with `specs/Fields.antt`.)
 #[tactic(auto, unfolding(crate::specs::Fields::same_fields))]
 pub fn same_fields(a: Fields, b: Fields) -> bool
     ensures { result ≡ same_fields a b }

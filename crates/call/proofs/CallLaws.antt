@@ -5,20 +5,21 @@ use mathlib.Core.Bool.{Bool, true, false, cond, not}
 use mathlib.Core.List.{List, [], ◌∷◌}
 use mathlib.Core.Option as maybe
 use Prim.Native.Nat.{ℕ}
-use Rattle.std.specs.Prelude.{Option, Result, Ok}
+use Rattle.std.specs.Prelude.{Option, Result, Ok, Some, None}
 use Rattle.access.specs.declared.ending.Error.{Error}
 use Rattle.access.specs.declared.ending.Error.TheVariants.{InvalidState}
 use Rattle.access.specs.Machine.{is_end, kept}
-use Rattle.call.specs.OnBlock.{After, AfterOn, OnBlock, IsRun, refused, standing, owed_by, moved_by, step_on, begin_by, begin_on}
+use Rattle.call.specs.OnBlock.{After, AfterOn, OnBlock, refused, standing, owed_by, moved_by, step_on, begin_by, begin_on}
 use Rattle.call.specs.CallOn.{CallOn, IsCall, Stands, state_in, machine_of, on_block, begun, begun_by, steps_from, still, run_from}
 use Rattle.call.specs.Edge.{in_block, begin_at, known}
 use Rattle.call.specs.Left.{begin_left, step_left}
 
-module _ {Args State Store : Type 0} (c : CallOn Args State Store) (k : IsCall c) where
-  -- its states, where their blocks hold them, are a machine's run
-  pub is_run : IsRun (on_block c) (machine_of c) (λ s. s) (Stands c)
-  is_run = record { needs = λ s. refl; moves = λ s a. refl; stays = k.moves; held = λ s h. ap state_in h }
+-- a state that is held by a test, in the mathematics' option
+pub held_if : {State : Type 0} (t : Bool) (s : State) → state_in (cond t (Some s) None) ≡ cond t (maybe.some s) maybe.none
+held_if true s = refl
+held_if false s = refl
 
+module _ {Args State Store : Type 0} (c : CallOn Args State Store) (k : IsCall c) where
   -- what a step makes of a state that stands in its block
   pub stepped : (s : State) (a : ℕ) → Stands c s → step_on (on_block c) (c.image s) a ≡ cond (is_end (c.need s)) (refused InvalidState (c.image s)) (standing (on_block c) (c.move s a))
   unfolding step_on

@@ -32,7 +32,7 @@ pub fn begin<C: States>(call: &C, args: C::Args, block: &mut C::Store) -> Result
 {
     let state = call.first(args)?;
     call.put(state, block);
-    Ok(Asked::of(call.owed(state)))
+    Ok(call.owed(state).into())
 }
 
 #[tactic(auto, unfolding(crate::specs::OnBlock::step_on))]
@@ -47,5 +47,5 @@ pub fn step<C: States>(call: &C, block: &mut C::Store, answer: u16) -> Asked
     }
     let next = call.advance(state, answer);
     call.put(next, block);
-    Asked::of(call.owed(next))
+    call.owed(next).into()
 }

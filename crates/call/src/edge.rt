@@ -21,7 +21,7 @@ pub fn begin<C: Call<Store = [u8; 32]>>(
         Some(whole) => begin_whole(call, args, whole),
         None => Asked::refused(),
     };
-    payload::number(asked, written)
+    asked.shown(written)
 }
 
 fn begin_whole<C: Call>(call: &C, args: Option<C::Args>, block: &mut C::Store) -> Asked
@@ -49,9 +49,9 @@ pub fn step<C: Call<Store = [u8; 32]>>(
     ensures { LeavesBlock (step_left (in_block (C.on call.now)) written.now block.old [] answer) result block.new }
 {
     let Some(whole) = block.as_mut_array::<32>() else {
-        return payload::number(Asked::refused(), written);
+        return Asked::refused().shown(written);
     };
-    payload::number(call.step(whole, answer), written)
+    call.step(whole, answer).shown(written)
 }
 
 // The same of a call that reads: the answer's byte is stored, if it is one to keep and the step is taken.
@@ -67,10 +67,10 @@ pub fn step_reading<C: Reads<Store = [u8; 32]>>(
     ensures { Leaves (step_left (in_block (C.on call.now)) written.now block.old read.old answer) result block.new read.new }
 {
     let Some(whole) = block.as_mut_array::<32>() else {
-        return payload::number(Asked::refused(), written);
+        return Asked::refused().shown(written);
     };
     let kept_at = call.kept_at(whole);
     let asked = call.step(whole, answer);
     payload::keep(kept_at, asked.is_refused(), read, answer);
-    payload::number(asked, written)
+    asked.shown(written)
 }

@@ -1,7 +1,7 @@
 -- The words of an ending in a block tell it.
 -- Assumes nothing.
 use Prim.Native.Nat.{ℕ, ◌+◌, ◌*◌, ◌%◌, ◌/◌}
-use mathlib.Core.Path.{◌≡◌, ap, ◌∙◌}
+use mathlib.Core.Path.{◌≡◌, refl, ap, ◌∙◌}
 use mathlib.Core.List.{List}
 use native.Mathlib.Omega.{arith}
 use lib.ListN.{get_or}
@@ -9,7 +9,7 @@ use Rattle.access.specs.Endings.{Ending, ending_of, ending_error, ending_value, 
 use Rattle.access.proofs.EndingLaws.{ending_back}
 use Rattle.block.specs.declared.fields.Fields.{Fields}
 use Rattle.block.specs.Bytes32.{bytes_of, word_at}
-use Rattle.images.specs.EndImage.{ending_at, KeepsEnd}
+use Rattle.images.specs.EndImage.{ending_at, KeepsEnd, with_end, with_ending}
 
 -- what is said of the words that were read
 pub by_words : {A : Type 0} (b : List ℕ) (f : ℕ → ℕ → ℕ → A) {v x : ℕ} → v ≡ word_at b 22 → x ≡ word_at b 30 → f (get_or b 7 0) v x ≡ f (get_or b 7 0) (word_at b 22) (word_at b 30)
@@ -28,3 +28,8 @@ word_back n = omega arith
 pub keeps_end : (f : Fields) (e : Ending) → f.error ≡ ending_error e → f.value ≡ ending_value e → f.extra ≡ ending_extra e → KeepsEnd (bytes_of f) e
 unfolding bytes_of
 keeps_end f e p q r = record { error = p; value = word_back f.value ∙ q; extra = word_back f.extra ∙ r }
+
+-- a block in which an ending is put says what it said, with this ending
+pub put_says : (e : Ending) (f : Fields) → with_ending e (bytes_of f) ≡ bytes_of (with_end e f)
+unfolding bytes_of
+put_says e f = refl

@@ -2,7 +2,7 @@
 ghost use Rattle.std.specs.Prelude.{◌≡◌};
 ghost use Rattle.images.specs.InitImage.{stage_number, stage_of, init_fields, init_of, init_in};
 
-use crate::numbers;
+use crate::numbers::{self, Entry};
 use block::{Fields, fields};
 use timing::init::{Stage, State};
 use timing::settings::Timing;
@@ -13,6 +13,7 @@ fn stage_number(x: Stage) -> u8
     x as u8
 }
 
+// (Total, as `specs/InitImage.antt` says it: `init_in` refuses the numbers that are no stage's. `Stage` is of another crate, so no `From`.)
 fn stage_of(number: u8) -> Stage
     ensures { result ≡ stage_of number }
 {
@@ -38,28 +39,16 @@ fn stage_of(number: u8) -> Stage
 pub fn init_fields(s: State) -> Fields
     ensures { result ≡ init_fields s }
 {
-    let timing = s.timing;
     Fields {
-        entry: 1,
+        entry: Entry::Init as u8,
         chip: numbers::chip_number(s.chip),
-        option: 0,
         stage: stage_number(s.stage),
-        what: 0,
-        phase: 0,
-        marks: numbers::flags_number(timing.fast, timing.duty, false, false),
-        error: 0,
-        address: 0,
-        run: 0,
-        left: 0,
-        place: 0,
+        marks: numbers::flags_number(s.timing.fast, s.timing.duty, false, false),
         word: s.saved,
-        divider: timing.divider,
-        rise: 0,
-        value: 0,
-        count: 0,
-        second: timing.rise,
-        mhz: timing.input_mhz,
-        extra: 0,
+        divider: s.timing.divider,
+        second: s.timing.rise,
+        mhz: s.timing.input_mhz,
+        ..Default::default()
     }
 }
 

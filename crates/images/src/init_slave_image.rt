@@ -2,7 +2,7 @@
 ghost use Rattle.std.specs.Prelude.{◌≡◌};
 ghost use Rattle.images.specs.InitSlaveImage.{init_stage_number, init_stage_of, is_ten, address_word, address_of, second_of, init_slave_fields, init_slave_of, init_slave_in};
 
-use crate::numbers;
+use crate::numbers::{self, Entry};
 use block::{Fields, fields};
 use slave::init::{InitStage, InitState};
 use slave::{SlaveAddress, SlaveConfig};
@@ -13,6 +13,7 @@ fn init_stage_number(x: InitStage) -> u8
     x as u8
 }
 
+// (Total, and no `From`, as `stage_of` of `init_image`.)
 fn init_stage_of(number: u8) -> InitStage
     ensures { result ≡ init_stage_of number }
 {
@@ -43,6 +44,7 @@ fn address_word(address: SlaveAddress) -> u16
     }
 }
 
+// (Of two parts of a block, and of a type of another crate, so no `From`.)
 pub fn address_of(ten: bool, word: u16) -> SlaveAddress
     ensures { result ≡ address_of ten word }
 {
@@ -64,36 +66,25 @@ pub fn second_of(has: bool, byte: u8) -> Option<u8>
 pub fn init_slave_fields(s: InitState) -> Fields
     ensures { result ≡ init_slave_fields s }
 {
-    let config = s.config;
-    let address = config.address;
-    let second = config.second_address;
-    let marks = numbers::flags_number(
-        is_ten(address),
-        second.is_some(),
-        config.general_call,
-        config.clock_stretching,
-    );
+    let SlaveConfig {
+        address,
+        second_address,
+        general_call,
+        clock_stretching,
+    } = s.config;
     Fields {
-        entry: 6,
-        chip: 0,
-        option: 0,
+        entry: Entry::InitSlave as u8,
         stage: init_stage_number(s.stage),
-        what: 0,
-        phase: 0,
-        marks,
-        error: 0,
+        marks: numbers::flags_number(
+            is_ten(address),
+            second_address.is_some(),
+            general_call,
+            clock_stretching,
+        ),
         address: address_word(address),
-        run: 0,
-        left: 0,
-        place: 0,
         word: s.saved,
-        divider: 0,
-        rise: 0,
-        value: 0,
-        count: 0,
-        second: second.unwrap_or(0),
-        mhz: 0,
-        extra: 0,
+        second: second_address.unwrap_or(0),
+        ..Default::default()
     }
 }
 
@@ -114,6 +105,7 @@ fn init_slave_of(f: Fields) -> InitState
     }
 }
 
+// (As `init_in`: a generic one would need a trait with a law for both conversions.)
 #[tactic(auto, unfolding(crate::specs::InitSlaveImage::init_slave_in))]
 pub fn init_slave_in(f: Fields) -> Option<InitState>
     ensures { result ≡ init_slave_in f }

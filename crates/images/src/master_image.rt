@@ -2,6 +2,7 @@
 ghost use Rattle.std.specs.Prelude.{◌≡◌};
 ghost use Rattle.images.specs.MasterImage.{frame_options_number, frame_options_of, kind_entry, kind_option, is_kind};
 
+use crate::numbers::Entry;
 use master::{FrameOptions, Kind};
 
 fn frame_options_number(x: FrameOptions) -> u8
@@ -10,6 +11,7 @@ fn frame_options_number(x: FrameOptions) -> u8
     x as u8
 }
 
+// (Total, as `specs/MasterImage.antt` says it: `is_kind` refuses other numbers. `FrameOptions` is of another crate, so no `From`.)
 pub fn frame_options_of(number: u8) -> FrameOptions
     ensures { result ≡ frame_options_of number }
 {
@@ -23,14 +25,15 @@ pub fn frame_options_of(number: u8) -> FrameOptions
     }
 }
 
+// (The order of the C header, which `master` does not know: so it is here, and no `From`.)
 pub fn kind_entry(kind: Kind) -> u8
     ensures { result ≡ kind_entry kind }
 {
     match kind {
-        Kind::Transaction => 2,
-        Kind::WriteRead => 3,
-        Kind::Write(_) => 4,
-        Kind::Read(_) => 5,
+        Kind::Transaction => Entry::Transaction as u8,
+        Kind::WriteRead => Entry::WriteRead as u8,
+        Kind::Write(_) => Entry::Write as u8,
+        Kind::Read(_) => Entry::Read as u8,
     }
 }
 
@@ -43,7 +46,7 @@ pub fn kind_option(kind: Kind) -> u8
     }
 }
 
-// Whether these are the numbers of a kind: only a frame has an option.
+// Whether these are the numbers of a kind: only a frame has an option. (Numbers: a block may hold any.)
 #[tactic(auto, unfolding(crate::specs::MasterImage::is_kind))]
 pub fn is_kind(entry: u8, option: u8) -> bool
     ensures { result ≡ is_kind entry option }

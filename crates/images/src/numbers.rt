@@ -4,22 +4,19 @@ ghost use Rattle.images.specs.Numbers.{flag_number, flags_number, flag_at, is_fl
 
 use registers::Chip;
 
-// The entries, in the order of the C header; `init` is 1.
-pub const TRANSACTION: u8 = 2;
-
-pub const WRITE_READ: u8 = 3;
-
-pub const WRITE: u8 = 4;
-
-pub const READ: u8 = 5;
-
-pub const INIT_SLAVE: u8 = 6;
-
-pub const LISTEN: u8 = 7;
-
-pub const RESPOND_TO_WRITE: u8 = 8;
-
-pub const RESPOND_TO_READ: u8 = 9;
+// The entries, in the order of the C header.
+#[derive(Clone, Copy)]
+pub enum Entry {
+    Init = 1,
+    Transaction = 2,
+    WriteRead = 3,
+    Write = 4,
+    Read = 5,
+    InitSlave = 6,
+    Listen = 7,
+    RespondToWrite = 8,
+    RespondToRead = 9,
+}
 
 pub fn flag_number(b: bool) -> u8
     ensures value { result ≡ flag_number b }
@@ -51,6 +48,7 @@ pub fn is_flag(number: u8) -> bool
     number < 2
 }
 
+// (`Chip` is of another crate, so neither this nor `chip_of` can be a `From`.)
 pub fn chip_number(chip: Chip) -> u8
     ensures { result ≡ chip_number chip }
 {
