@@ -86,6 +86,7 @@ pub enum StopFor {
     Two,
 }
 
+// The halves of a `modify`. (Crate `slave` has them too: neither crate is below the other, and one more for two words is no plainer.)
 #[derive(Clone, Copy)]
 pub enum Half {
     Read,

@@ -18,7 +18,7 @@ pub struct Progress {
     pub ending: Ending,
 }
 
-// Where an answer leads.
+// Where an answer leads. (Crate `slave` has one of its own stages, and is not below this one.)
 #[derive(Clone, Copy)]
 pub struct Move {
     pub stage: Stage,

@@ -4,12 +4,12 @@ use mathlib.Core.Path.{◌≡◌, refl, ap, sym, ◌∙◌}
 use mathlib.Core.Bool.{Bool, true, false, cond, not, ◌&&◌, ◌||◌}
 use mathlib.Core.List.{List}
 use Prim.Native.Nat.{ℕ}
-use Rattle.std.specs.Prelude.{Result, Ok, Err, Option, Some, None}
+use Rattle.std.specs.Prelude.{Ok, Err, Option, Some, None}
 use Rattle.registers.specs.declared.register.Register.TheVariants.{Ctlr1}
 use Rattle.access.specs.declared.ending.Error.{Error}
 use Rattle.access.specs.declared.ending.Error.TheVariants.{InvalidArgument}
 use Rattle.access.specs.declared.need.Need.TheVariants as need
-use Rattle.access.specs.Endings.{done, failed}
+use Rattle.access.specs.Endings.{done}
 use Rattle.block.specs.declared.fields.Fields.{Fields}
 use Rattle.block.specs.Bytes32.{bytes_of}
 use Rattle.images.specs.Numbers.{chip_number}

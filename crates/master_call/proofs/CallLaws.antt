@@ -2,7 +2,7 @@
 -- Assumes nothing.
 use Prim.Native.Nat.{ℕ}
 use mathlib.Core.Path.{◌≡◌, refl, sym, subst, ◌∙◌}
-use mathlib.Core.Bool.{Bool, true, false, cond, not, ◌&&◌, true≢false}
+use mathlib.Core.Bool.{Bool, true, false, cond, not, ◌&&◌, true≢false, and-false}
 use mathlib.Core.List.{List}
 use mathlib.Core.Option.{none}
 use lib.Dec.{eqb, ltb}
@@ -49,14 +49,7 @@ none_open g (stage.RecvByte x) d = refl
 none_open g (stage.ReadIter x) d = refl
 none_open g (stage.GenerateStop k x) d = refl
 none_open g (stage.Abort x) d = refl
-none_open g stage.Ended d = ended (fits_nothing stage.Ended d)
-  where
-    ended : (b : Bool) → b && false ≡ false
-    ended true = refl
-    ended false = refl
-
-no_more : (b : Bool) → false && b ≡ false
-no_more b = refl
+none_open g stage.Ended d = and-false (fits_nothing stage.Ended d)
 
 module _ (s : State) (list : List ℕ) (w room : ℕ) where
   -- a cause of refusal
@@ -162,11 +155,7 @@ module _ (entry : ℕ) (b list : List ℕ) (w room a : ℕ) (after : List ℕ) (
           → Stepped (cond own (cond (same_fields (master_fields (master_of (fields_of b))) (fields_of b)) (Some (master_of (fields_of b))) None) None) list w room a b after asked
       go false call ending e c k = r
       go true false ending e c k = other _ (ranges.image_ranges (fields_of b)) (rw c)
-      go true true false e c k = other _ (ranges.image_ranges (fields_of b)) (rw (c, k) (last (is_stage (fields_of b).stage (fields_of b).what (fields_of b).phase)))
-        where
-          last : (n : Bool) → n && false ≡ false
-          last true = refl
-          last false = refl
+      go true true false e c k = other _ (ranges.image_ranges (fields_of b)) (rw (c, k) (and-false (is_stage (fields_of b).stage (fields_of b).what (fields_of b).phase)))
       go true true true e c k = absurd (true≢false e)
 
   -- and one that does

@@ -1,7 +1,7 @@
 -- A step that takes a byte to keep is told from a refused one by what it asks for.
 -- Assumes nothing.
 use Prim.Native.Nat.{ℕ}
-use mathlib.Core.Path.{◌≡◌, refl, sym, ap, subst, ◌∙◌}
+use mathlib.Core.Path.{◌≡◌, refl, sym, ap, ◌∙◌}
 use mathlib.Core.Bool.{Bool, true, false, cond, not, ◌&&◌, true≢false}
 use mathlib.Core.List.{List}
 use native.Mathlib.Omega.{arith}
@@ -22,7 +22,7 @@ use Rattle.block.specs.Bytes32.{fields_of}
 use Rattle.operations.specs.declared.search.Run.{Run}
 use Rattle.operations.specs.Runs.{run_at}
 use Rattle.master.specs.declared.state.State.{State}
-use Rattle.master.specs.Machine.{owed_at, advance_at, found_run, run_of}
+use Rattle.master.specs.Machine.{advance_at, found_run, run_of}
 use Rattle.master.specs.Fits.{fits, fits_found}
 use Rattle.master.specs.Calls.{setting_of, spans_by, shape_by, refusal_by}
 use Rattle.master.specs.Steps.{state_at, need_of, fits_lent, is_none}

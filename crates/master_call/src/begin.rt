@@ -3,6 +3,7 @@ ghost use Rattle.std.specs.Prelude.{◌≡◌};
 ghost use Rattle.operations.specs.Operations.{is_read};
 ghost use Rattle.master.specs.Machine.{fresh, start_with};
 ghost use Rattle.master.specs.Calls.{misshapen, setting_of};
+ghost use Rattle.stage_numbers.specs.MasterGroup.{group_number};
 ghost use Rattle.master_step.specs.Going.{here_in};
 ghost use Rattle.master_step.specs.Held.{fields_at, Moves};
 ghost use Rattle.master_call.specs.CallBegin.{CallBegins};
@@ -10,76 +11,62 @@ ghost use Rattle.master_call.specs.CallBegin.{CallBegins};
 use crate::here;
 use access::Error;
 use asked::Asked;
-use block::{Fields, bytes32};
+use block::Fields;
 use images::{master_image, numbers};
 use master::{Call, Kind};
 use master_lent::lent;
-use master_step::{Here, go, put, stage};
+use master_step::{Here, begun, write_bytes};
 use operations::{Run, operation, shape};
 use registers::Register;
+use stage_numbers::Numbered;
+use stage_numbers::master_stage::Group;
 
 // The numbers of a call that has done nothing yet, at the first stage of a group.
-fn begun_fields(call: Call, group: u8) -> Fields
-    ensures { result ≡ fields_at call fresh group 0 0 }
+#[tactic(auto, using(crate::proofs::BeginLaws::begun_is))]
+fn begun_fields(call: Call, group: Group) -> Fields
+    ensures { result ≡ fields_at call fresh (group_number group) 0 0 }
 {
-    let kind = call.kind;
-    let chip = call.chip;
     Fields {
-        entry: master_image::kind_entry(kind),
-        chip: numbers::chip_number(chip),
-        option: master_image::kind_option(kind),
-        stage: group,
-        what: 0,
-        phase: 0,
-        marks: 0,
-        error: 0,
+        entry: master_image::kind_entry(call.kind),
+        chip: numbers::chip_number(call.chip),
+        option: master_image::kind_option(call.kind),
+        stage: group.number(),
         address: call.address,
-        run: 0,
-        left: 0,
-        place: 0,
-        word: 0,
-        divider: 0,
-        rise: 0,
-        value: 0,
-        count: 0,
-        second: 0,
-        mhz: 0,
-        extra: 0,
+        ..Default::default()
     }
 }
 
+#[tactic(auto, using(crate::proofs::BeginLaws::here_is))]
 fn here_of(call: Call, run: Run) -> Here
     ensures { result ≡ here_in call run (is_read run.direction) }
 {
-    let kind = call.kind;
-    let direction = run.direction;
-    let option = master_image::kind_option(kind);
     here::here_by(
-        operation::is_read(direction),
+        operation::is_read(run.direction),
         run.length,
         run.before,
         run.more,
-        option,
+        master_image::kind_option(call.kind),
     )
 }
 
 // The first run's first access; a write without START has none of its own. An empty list has ended.
+#[tactic(auto, using(crate::proofs::BeginLaws::starts_ended, crate::proofs::BeginLaws::starts_first, crate::proofs::BeginLaws::begun_block))]
 fn starts(block: &mut [u8; 32], call: Call, found: Option<Run>) -> Asked
     ensures { Moves call (start_with (setting_of call) found) block.new result }
 {
     match found {
         None => {
-            bytes32::put(block, begun_fields(call, stage::ENDED));
+            *block = begun_fields(call, Group::Ended).into();
             Asked::done()
         }
         Some(run) => {
-            bytes32::put(block, begun_fields(call, stage::BEGIN));
+            *block = begun_fields(call, Group::Begin).into();
             let here = here_of(call, run);
             if here.reading | here.start {
                 return Asked::read(Register::Ctlr1);
             }
-            put::begun(block, here);
-            go::write_bytes(block, here, here.length)
+            begun(block, here);
+            write_bytes(block, here, here.length)
         }
     }
 }
@@ -88,15 +75,11 @@ fn starts(block: &mut [u8; 32], call: Call, found: Option<Run>) -> Asked
 fn misshapen(kind: Kind, list: &[u8]) -> bool
     ensures { result ≡ misshapen kind list.now }
 {
-    match kind {
-        Kind::Transaction => !shape::is_shaped(list),
-        Kind::WriteRead => false,
-        Kind::Write(_) => false,
-        Kind::Read(_) => false,
-    }
+    matches!(kind, Kind::Transaction) && !shape::is_shaped(list)
 }
 
 // The first cause of refusal, or the first access, with so many bytes lent to write and to read.
+#[tactic(auto, using(crate::proofs::BeginLaws::begin_misshapen, crate::proofs::BeginLaws::begin_refused, crate::proofs::BeginLaws::begin_found))]
 pub fn begin(
     block: &mut [u8; 32],
     call: Call,
@@ -106,12 +89,9 @@ pub fn begin(
 ) -> Result<Asked, Error>
     ensures { CallBegins call list.now written room block.old block.new result }
 {
-    let kind = call.kind;
-    if misshapen(kind, list) {
+    if misshapen(call.kind, list) {
         return Err(Error::InvalidArgument);
     }
-    match lent::look(kind, call.address, list, written, room, 0) {
-        Err(error) => Err(error),
-        Ok(found) => Ok(starts(block, call, found)),
-    }
+    let found = lent::look(call.kind, call.address, list, written, room, 0)?;
+    Ok(starts(block, call, found))
 }

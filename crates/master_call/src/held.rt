@@ -4,7 +4,7 @@ ghost use Rattle.block.specs.Bytes32.{fields_of};
 ghost use Rattle.images.specs.MasterImage.{unused_empty};
 ghost use Rattle.master_call.specs.CallStep.{is_call_of};
 
-use block::{at, bytes32};
+use block::{Block, at};
 use images::{end_image, master_image, numbers};
 
 // The numbers that no master call has a use for are 0.
@@ -12,10 +12,11 @@ use images::{end_image, master_image, numbers};
 fn unused_empty(block: &[u8; 32]) -> bool
     ensures { result ≡ unused_empty (fields_of block.now) }
 {
-    (bytes32::long_at(block, at::COUNT) == 0) & ((block[at::SECOND] == 0) & (block[at::MHZ] == 0))
+    (block.long(at::COUNT) == 0) & ((block[at::SECOND] == 0) & (block[at::MHZ] == 0))
 }
 
-// The numbers beside those of the stage are those of a call of this entry.
+// The numbers beside those of the stage are those of a call of this entry. (By its number: a block may hold any.)
+#[tactic(auto, unfolding(crate::specs::CallStep::is_call_of, images::specs::MasterImage::is_call, block::specs::Bytes32::fields_of))]
 pub fn is_call_of(block: &[u8; 32], entry: u8) -> bool
     ensures { result ≡ is_call_of entry block.now }
 {

@@ -4,11 +4,12 @@ ghost use Rattle.master_call.specs.CallStep.{CallSteps, few_enough};
 
 use crate::{held, here};
 use asked::Asked;
-use block::{at, bytes32};
-use images::numbers;
+use block::{Block, at};
+use images::numbers::Entry;
 use master_step::step;
 
 // Something to read, and no more than 65,535 bytes together.
+#[tactic(auto, using(crate::proofs::HeldLaws::few, crate::proofs::HeldLaws::many))]
 fn few_enough(written: usize, room: usize) -> bool
     ensures { result ≡ few_enough written room }
 {
@@ -18,12 +19,13 @@ fn few_enough(written: usize, room: usize) -> bool
     false
 }
 
+#[tactic(auto, using(crate::proofs::RunLaws::both_short))]
 pub fn write_read_step(block: &mut [u8; 32], written: usize, room: usize, answer: u16) -> Asked
     ensures { CallSteps 3 [] written room answer block.old block.new result }
 {
-    let address = bytes32::word_at(block, at::ADDRESS);
-    let run = bytes32::word_at(block, at::RUN);
-    if held::is_call_of(block, numbers::WRITE_READ)
+    let address = block.word(at::ADDRESS);
+    let run = block.word(at::RUN);
+    if held::is_call_of(block, Entry::WriteRead as u8)
         & ((address <= 127) & (few_enough(written, room) & (run < 2)))
     {
         if run == 0 {

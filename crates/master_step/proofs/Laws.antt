@@ -8,13 +8,12 @@ use native.Mathlib.Omega.{arith}
 use lib.ListN.{get_or, set}
 use Rattle.access.specs.declared.need.Need.{Need}
 use Rattle.access.specs.Endings.{Ending, done}
-use Rattle.block.specs.declared.fields.Fields.{Fields}
 use Rattle.block.specs.Bytes32.{bytes_of, word_at, with_word}
 use Rattle.block.proofs.Codec.{said_back}
-use Rattle.images.specs.EndImage.{KeepsEnd, with_end}
+use Rattle.images.specs.EndImage.{KeepsEnd, with_ending}
 use Rattle.images.specs.MasterImage.{master_fields, master_of}
 use Rattle.images.specs.Numbers.{flag_number, chip_of}
-use Rattle.images.proofs.EndImageLaws.{keeps_end}
+use Rattle.images.proofs.EndImageLaws.{keeps_end, put_says}
 use Rattle.images.proofs.MasterImageLaws.{master_back}
 use Rattle.images.proofs.NumberLaws.{chip_back}
 use Rattle.operations.specs.declared.search.Run.{Run}
@@ -146,9 +145,9 @@ module _ (c : Call) (d : Progress) (g w p : ℕ) {b : List ℕ} (e : block_at c 
   unfolding block_at bytes_of fields_at
   next_begun run q = rw (q, ← e, word_back d.run) refl
 
-  pub ends_at : (x : Ending) {after : List ℕ} → ((f : Fields) → b ≡ bytes_of f → after ≡ bytes_of (with_end x f)) → block_at c (ends_with x d) g w p ≡ after
+  pub ends_at : (x : Ending) → block_at c (ends_with x d) g w p ≡ with_ending x b
   unfolding block_at fields_at
-  ends_at x put = sym (put (fields_at c d g w p) (sym e))
+  ends_at x = sym (put_says x (fields_at c d g w p)) ∙ ap (with_ending x) e
 
 -- ---- a step
 
@@ -195,3 +194,7 @@ module _ {t : Bool} {c : Call} {after : List ℕ} {asked : Need} where
 
   pub second : (x : Move) {y : Move} → t ≡ false → Moves c y after asked → Moves c (cond t x y) after asked
   second x {y} e m = subst (λ (b : Bool). Moves c (cond b x y) after asked) (sym e) m
+
+-- a move from a kind that is told
+pub as_told : {A : Type 0} (m : A → Move) {x y : A} {c : Call} {after : List ℕ} {asked : Need} → x ≡ y → Moves c (m y) after asked → Moves c (m x) after asked
+as_told m {c = c} {after = after} {asked = asked} e = subst (λ v. Moves c (m v) after asked) (sym e)

@@ -7,6 +7,7 @@ use lib.Dec.{eqb, leb, ltb}
 use borrow.Author.Tests.{eqb-true}
 use Rattle.access.proofs.Choice.{both_true, first_true, second_true}
 use Rattle.access.specs.Endings.{is_done}
+use Rattle.registers.specs.declared.chip.Chip.{Chip}
 use Rattle.errors.specs.Met.{has_failed}
 use Rattle.images.specs.EndImage.{ending_at}
 use Rattle.images.specs.Numbers.{flag_number}
@@ -18,6 +19,9 @@ use Rattle.master.specs.declared.stage.Stage.TheVariants as stage
 use Rattle.master.specs.declared.state.Progress.{Progress}
 use Rattle.master.specs.Fits.{counts, runs, fits_at, fits_fall, fits_wait, fits_read, fits_stop, starting, sending, receiving, untouched, fits_abort}
 use Rattle.master.specs.Calls.{setting_of}
+use Rattle.stage_numbers.specs.declared.master_stage.Group.{Group}
+use Rattle.stage_numbers.specs.declared.master_stage.Group.TheVariants as group
+use Rattle.stage_numbers.specs.MasterGroup.{group_number}
 use Rattle.stage_numbers.specs.MasterStage.{stage_group, stage_what, stage_phase, stage_of, is_stage}
 use Rattle.master_step.specs.declared.here.Here.{Here}
 use Rattle.master_step.specs.Held.{block_at, run_in, ready_at}
@@ -39,6 +43,20 @@ same_counts h d = go h.reading
     go : (b : Bool) → eqb (flag_number d.reading) (flag_number b) && (leb d.left h.length && eqb (d.place + d.left) (h.before + h.length)) ≡ counts (run_in (record { reading = b; length = h.length; before = h.before; more = h.more; start = h.start; stops = h.stops; nack = h.nack })) d
     go true = rw (same_flag h d d.reading true) refl
     go false = rw (same_flag h d d.reading false) refl
+
+-- in a group between the first and the abort
+pub busy_ready : (chip : Chip) (r : Run) (d : Progress) (x : Group) → (x ≡ group.Begin → ⊥) → (x ≡ group.Abort → ⊥) → (x ≡ group.Ended → ⊥) → counts r d && is_done d.ending ≡ ready_at chip (group_number x) r d
+busy_ready chip r d group.Begin b a e = absurd (b refl)
+busy_ready chip r d group.WaitStop b a e = refl
+busy_ready chip r d group.LaunchStart b a e = refl
+busy_ready chip r d group.Wait b a e = refl
+busy_ready chip r d group.Address b a e = refl
+busy_ready chip r d group.SendByte b a e = refl
+busy_ready chip r d group.RecvByte b a e = refl
+busy_ready chip r d group.ReadIter b a e = refl
+busy_ready chip r d group.GenerateStop b a e = refl
+busy_ready chip r d group.Abort b a e = absurd (a refl)
+busy_ready chip r d group.Ended b a e = absurd (e refl)
 
 -- ---- and that they ref
 pub not_true : (b : Bool) → (b ≡ true → ⊥) → b ≡ false

@@ -1,13 +1,13 @@
 -- What is seen before a step is what its group asks for.
 -- Assumes nothing.
-use Prim.Native.Nat.{ℕ, ◌<◌, ◌≤◌}
+use Prim.Native.Nat.{ℕ, ◌<◌}
 use native.Mathlib.Omega.{arith}
 use mathlib.Core.Path.{◌≡◌, refl, sym, ap, subst, ◌∙◌}
 use mathlib.Core.Bool.{Bool, true, false, cond, ◌&&◌, ◌||◌, true≢false}
 use mathlib.Core.List.{List}
 use lib.Dec.{eqb, ltb}
 use lib.ListN.{get_or}
-use borrow.Author.Tests.{eq-eqb, ne_eqb, le-ltb}
+use borrow.Author.Tests.{eq-eqb, ne_eqb}
 use Rattle.access.proofs.Choice.{first_true, second_true, true_same}
 use Rattle.access.proofs.EndingLaws.{ended_done}
 use Rattle.access.specs.declared.need.Need.{Need}
@@ -30,10 +30,6 @@ use Rattle.master_step.specs.declared.here.Here.{Here}
 use Rattle.master_step.specs.Going.{here_in}
 use Rattle.master_step.specs.Held.{call_in, progress_in, ready_at, Moves, Goes, Numbers, block_at, Stand, bytes, stand_in, run_in, Seen, Unbegun, Told, Ready, Steps, StepHere, StepIn, is_taken, stage_in}
 use Rattle.master_step.proofs.Laws.{stand_back, left_at, direction_told, goes_at}
-
--- no stage of a group from 10 on takes a step
-pub no_group : (n : ℕ) (b : Bool) → 10 ≤ n → ltb n 10 && b ≡ false
-no_group n b h = ap (λ (x : Bool). x && b) (le-ltb n 10 h)
 
 only_second : (a b : Bool) → a ≡ false → a || b ≡ true → b ≡ true
 only_second true b e h = absurd (true≢false e)

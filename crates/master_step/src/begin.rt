@@ -6,9 +6,11 @@ ghost use Rattle.master_step.specs.Held.{stand_in, call_in, progress_in, run_in,
 
 use crate::here::Here;
 use crate::input::Input;
-use crate::{put, stage, start};
+use crate::{put, start};
 use asked::Asked;
-use block::{at, bytes32};
+use block::{Block, at};
+use master::Stage;
+use master::stage::{Fall, FallStage, ReadStage};
 use registers::{Register, bits, word};
 
 // The block has nothing of the run yet, and the run has a first access: a read changes POS, and a START waits for STOP to fall.
@@ -19,8 +21,7 @@ fn fits_begin(block: &[u8; 32], here: Here, left: u16, what: u8, phase: u8) -> b
     (what == 0)
         & ((phase == 0)
             & ((block[at::MARKS] == 0)
-                & ((left == 0)
-                    & ((bytes32::word_at(block, at::PLACE) == 0) & (here.reading | here.start)))))
+                & ((left == 0) & ((block.word(at::PLACE) == 0) & (here.reading | here.start)))))
 }
 
 // The run begins, by the first answer: ctlr1.modify(set_pos(..)) in a read, and in a write the first word of wait_stop_finished.
@@ -32,19 +33,14 @@ fn begin_run(block: &mut [u8; 32], here: Here, input: Input) -> Asked
     if here.reading {
         let two = (here.length == 2) & here.nack;
         put::saves(block, input.answer);
-        put::to(block, stage::READ_ITER, 0, stage::POS_WRITE);
+        put::to(block, Stage::ReadIter(ReadStage::PosWrite));
         return Asked::write(Register::Ctlr1, word::put_bit(input.answer, bits::POS, two));
     }
     if word::bit(input.answer, bits::STOP) {
-        put::to(
-            block,
-            stage::WAIT_STOP,
-            stage::FALL_START,
-            stage::FALL_CLOCK,
-        );
+        put::to(block, Stage::WaitStop(Fall::Start, FallStage::Clock));
         return Asked::clock();
     }
-    start::fallen(block, here, here.length, stage::FALL_START)
+    start::fallen(block, here, here.length, Fall::Start)
 }
 
 pub fn begins(block: &mut [u8; 32], here: Here, input: Input) -> Asked

@@ -8,28 +8,39 @@ ghost use Rattle.master.specs.declared.call.Setting.{Setting};
 ghost use Rattle.master.specs.declared.stage.Stage.TheVariants.{Ended};
 ghost use Rattle.master.specs.declared.state.Progress.{Progress};
 ghost use Rattle.master.specs.Machine.{to, fails, saves, finished, write_bytes_move, read_bytes};
+ghost use Rattle.stage_numbers.specs.MasterStage.{stage_group, stage_what, stage_phase};
 ghost use Rattle.master_step.specs.Held.{Stand, bytes, at_stage, at_phase, on, stand_in, call_in, progress_in, Puts, Moves, Goes};
 
 use crate::here::Here;
-use crate::{put, stage};
+use crate::put;
 use access::Failure;
 use asked::Asked;
-use block::{at, bytes32};
+use block::{Block, at};
+use master::Stage;
+use master::stage::{AbortStage, Fall, FallStage, Flag, Half, StopFor, WaitStage};
 use registers::Register;
+use stage_numbers::Numbered;
 
 // An error: the abort begins. (The Rust's `OnDrop::new(Self::abort_transfer)`.)
 pub fn fails(block: &mut [u8; 32], failure: Failure) -> Asked
     ensures { bytes (stand_in block.old) ≡ block.old → Moves (call_in block.old) (fails failure (progress_in block.old)) block.new result }
 {
     put::failed(block, failure);
-    put::to(block, stage::ABORT, 0, 0);
+    put::to(block, Stage::Abort(AbortStage::FinishRead));
     Asked::read(Register::Ctlr2)
 }
 
-// A register is changed: the word read is saved, and in this phase of the stage the new one is written.
+// A register is changed: the word read is saved, and in this phase of the stage the new one is written. (The slave's stores the same; this contract says
+// what the bytes mean, and the stages are two types, so one function would be a trait for two callers. So with `fails` and `ends`.)
 #[tactic(auto, using(crate::proofs::Laws::stand_back))]
-pub fn modifies(block: &mut [u8; 32], phase: u8, old: u16, register: Register, new: u16) -> Asked
-    ensures puts { Puts block.old block.new (λ (s : Stand). at_phase phase (on (saves old) s)) }
+pub fn modifies<P: Numbered>(
+    block: &mut [u8; 32],
+    phase: P,
+    old: u16,
+    register: Register,
+    new: u16,
+) -> Asked
+    ensures puts { Puts block.old block.new (λ (s : Stand). at_phase (P.number_of phase) (on (saves old) s)) }
     ensures asks { result ≡ need.Write register new }
 {
     put::saves(block, old);
@@ -39,12 +50,12 @@ pub fn modifies(block: &mut [u8; 32], phase: u8, old: u16, register: Register, n
 
 // On to a stage where a byte is to be kept, at the place that the block has.
 #[tactic(auto, using(crate::proofs::Laws::place_at))]
-pub fn keeps(block: &mut [u8; 32], group: u8, phase: u8) -> Asked
-    ensures puts { Puts block.old block.new (at_stage group 0 phase) }
+pub fn keeps(block: &mut [u8; 32], stage: Stage) -> Asked
+    ensures puts { Puts block.old block.new (at_stage (stage_group stage) (stage_what stage) (stage_phase stage)) }
     ensures asks { bytes (stand_in block.old) ≡ block.old → result ≡ need.Keep (progress_in block.old).place }
 {
-    let place = bytes32::word_at(block, at::PLACE);
-    put::to(block, group, 0, phase);
+    let place = block.word(at::PLACE);
+    put::to(block, stage);
     Asked::keep(place as u32)
 }
 
@@ -52,7 +63,7 @@ pub fn keeps(block: &mut [u8; 32], group: u8, phase: u8) -> Asked
 pub fn ends(block: &mut [u8; 32], here: Here, left: u16) -> Asked
     ensures { Goes here left block.old block.new result (λ (_ : Setting) (_ : Run) (d : Progress). to Ended d) }
 {
-    put::to(block, stage::ENDED, 0, 0);
+    put::to(block, Stage::Ended);
     Asked::done()
 }
 
@@ -62,20 +73,15 @@ pub fn finished(block: &mut [u8; 32], here: Here, left: u16) -> Asked
 {
     if here.stops {
         if here.reading {
-            put::to(
-                block,
-                stage::WAIT_STOP,
-                stage::FALL_END,
-                stage::FALL_CONTROL,
-            );
+            put::to(block, Stage::WaitStop(Fall::End, FallStage::Control));
             return Asked::read(Register::Ctlr1);
         }
-        put::to(block, stage::GENERATE_STOP, stage::STOP_WRITE, 0);
+        put::to(block, Stage::GenerateStop(StopFor::Write, Half::Read));
         return Asked::read(Register::Ctlr1);
     }
     if here.more {
         put::next_run(block);
-        put::to(block, stage::BEGIN, 0, 0);
+        put::to(block, Stage::Begin);
         return Asked::read(Register::Ctlr1);
     }
     ends(block, here, left)
@@ -88,7 +94,7 @@ pub fn write_bytes(block: &mut [u8; 32], here: Here, left: u16) -> Asked
     if left == 0 {
         return finished(block, here, left);
     }
-    put::to(block, stage::WAIT, stage::TXE, stage::WAIT_STATUS);
+    put::to(block, Stage::Wait(Flag::Txe, WaitStage::Status));
     Asked::read(Register::Star1)
 }
 
@@ -100,13 +106,13 @@ pub fn read_bytes(block: &mut [u8; 32], here: Here, left: u16) -> Asked
         return finished(block, here, left);
     }
     if here.nack & (left == 2) {
-        put::to(block, stage::WAIT, stage::TWO, stage::WAIT_STATUS);
+        put::to(block, Stage::Wait(Flag::Two, WaitStage::Status));
         return Asked::read(Register::Star1);
     }
     if here.nack & (left == 3) {
-        put::to(block, stage::WAIT, stage::THREE, stage::WAIT_STATUS);
+        put::to(block, Stage::Wait(Flag::Three, WaitStage::Status));
         return Asked::read(Register::Star1);
     }
-    put::to(block, stage::WAIT, stage::RXNE, stage::WAIT_STATUS);
+    put::to(block, Stage::Wait(Flag::Rxne, WaitStage::Status));
     Asked::read(Register::Star1)
 }

@@ -1,8 +1,6 @@
 // What a step knows of the run that it is in, and what the frame asks there.
-ghost use Rattle.std.specs.Prelude.{◌≡◌, ◌&&◌, eqb, ltb};
+ghost use Rattle.std.specs.Prelude.{◌≡◌};
 ghost use Rattle.master_step.specs.Going.{starting_in, closing_in, sending_in, receiving_in, last_ones_in, single_in};
-
-use crate::input::Input;
 
 #[derive(Clone, Copy)]
 pub struct Here {
@@ -17,51 +15,46 @@ pub struct Here {
     pub nack: bool,
 }
 
-// Between the run's START and its bytes.
-pub fn starting(here: Here, left: u16) -> bool
-    ensures { result ≡ starting_in here left }
-{
-    here.start & (left == here.length)
-}
+impl Here {
+    // Between the run's START and its bytes.
+    pub fn starting(self, left: u16) -> bool
+        ensures { result ≡ starting_in self left }
+    {
+        self.start & (left == self.length)
+    }
 
-// A stage there that is one of four parts.
-pub fn fits_starting(here: Here, input: Input) -> bool
-    ensures { result ≡ eqb input.what 0 && (ltb input.phase 4 && starting_in here input.left) }
-{
-    (input.what == 0) & ((input.phase < 4) & starting(here, input.left))
-}
+    // All bytes are moved, and STOP is asked.
+    pub fn closing(self, left: u16) -> bool
+        ensures { result ≡ closing_in self left }
+    {
+        self.stops & (left == 0)
+    }
 
-// All bytes are moved, and STOP is asked.
-pub fn closing(here: Here, left: u16) -> bool
-    ensures { result ≡ closing_in here left }
-{
-    here.stops & (left == 0)
-}
+    // A byte of a write is under way.
+    pub fn sending(self, left: u16) -> bool
+        ensures { result ≡ sending_in self left }
+    {
+        !self.reading & (0 < left)
+    }
 
-// A byte of a write is under way.
-pub fn sending(here: Here, left: u16) -> bool
-    ensures { result ≡ sending_in here left }
-{
-    !here.reading & (0 < left)
-}
+    // A byte is read by RXNE: with NACK only the only one, or one that more than two follow.
+    pub fn receiving(self, left: u16) -> bool
+        ensures { result ≡ receiving_in self left }
+    {
+        self.reading & ((0 < left) & (!self.nack | ((3 < left) | (self.length == 1))))
+    }
 
-// A byte is read by RXNE: with NACK only the only one, or one that more than two follow.
-pub fn receiving(here: Here, left: u16) -> bool
-    ensures { result ≡ receiving_in here left }
-{
-    here.reading & ((0 < left) & (!here.nack | ((3 < left) | (here.length == 1))))
-}
+    // One of the last bytes, read by BTF.
+    pub fn last_ones(self, left: u16, n: u16) -> bool
+        ensures { result ≡ last_ones_in self left n }
+    {
+        self.reading & (self.nack & ((left == n) & (1 < self.length)))
+    }
 
-// One of the last bytes, read by BTF.
-pub fn last_ones(here: Here, left: u16, n: u16) -> bool
-    ensures { result ≡ last_ones_in here left n }
-{
-    here.reading & (here.nack & ((left == n) & (1 < here.length)))
-}
-
-// A run of one byte to read, behind its START.
-pub fn single(here: Here, left: u16) -> bool
-    ensures { result ≡ single_in here left }
-{
-    here.reading & (starting(here, left) & (here.length == 1))
+    // A run of one byte to read, behind its START.
+    pub fn single(self, left: u16) -> bool
+        ensures { result ≡ single_in self left }
+    {
+        self.reading & (self.starting(left) & (self.length == 1))
+    }
 }

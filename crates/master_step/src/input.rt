@@ -3,6 +3,7 @@
 #[derive(Clone, Copy)]
 pub struct Input {
     pub left: u16,
+    // The block's bytes: each group looks up its own.
     pub what: u8,
     pub phase: u8,
     pub answer: u16,

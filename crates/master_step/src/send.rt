@@ -5,14 +5,16 @@ ghost use Rattle.master_step.specs.Held.{Group};
 
 use crate::here::Here;
 use crate::input::Input;
-use crate::{here, put, stage};
+use crate::put;
 use asked::Asked;
+use master::Stage;
+use master::stage::{Flag, WaitStage};
 use registers::Register;
 
 fn fits_send(here: Here, input: Input) -> bool
     ensures { result ≡ eqb input.what 0 && (eqb input.phase 0 && sending_in here input.left) }
 {
-    (input.what == 0) & ((input.phase == 0) & here::sending(here, input.left))
+    (input.what == 0) & ((input.phase == 0) & here.sending(input.left))
 }
 
 // The byte is out: BTF is waited for. Nothing is read, so there is no answer to look at.
@@ -22,6 +24,6 @@ pub fn send_byte(block: &mut [u8; 32], here: Here, input: Input) -> Asked
     if !fits_send(here, input) {
         return Asked::refused();
     }
-    put::to(block, stage::WAIT, stage::SENT, stage::WAIT_STATUS);
+    put::to(block, Stage::Wait(Flag::Sent, WaitStage::Status));
     Asked::read(Register::Star1)
 }

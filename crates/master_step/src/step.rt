@@ -1,39 +1,42 @@
 // The step of a master call, by the group of its stage.
 ghost use Rattle.std.specs.Prelude.{◌≡◌, get_or};
+ghost use Rattle.stage_numbers.specs.MasterGroup.{group_number};
 ghost use Rattle.master_step.specs.Held.{Step, StepHere, StepIn};
 
 use crate::here::Here;
 use crate::input::Input;
-use crate::{abort, address, begin, read, ready, send, stage, start, stop, wait};
+use crate::{abort, address, begin, read, ready, send, start, stop, wait};
 use asked::Asked;
-use block::{at, bytes32};
+use block::{Block, at};
+use stage_numbers::Numbered;
+use stage_numbers::master_stage::Group;
 
-// A call that has ended takes no step, and no stage is of another group.
+// A call that has ended takes no step. (A `match`: a table of functions cannot be handed out, and costs an indirect call.)
 #[inline(always)]
-pub fn step(block: &mut [u8; 32], here: Here, group: u8, input: Input) -> Asked
-    ensures { Step group here input block.old block.new result }
+fn step(block: &mut [u8; 32], here: Here, group: Group, input: Input) -> Asked
+    ensures { Step (group_number group) here input block.old block.new result }
 {
     match group {
-        stage::BEGIN => begin::begins(block, here, input),
-        stage::WAIT_STOP => start::wait_stop_finished(block, here, input),
-        stage::LAUNCH_START => start::launch_start(block, here, input),
-        stage::WAIT => wait::wait_flag(block, here, input),
-        stage::ADDRESS => address::address_phase(block, here, input),
-        stage::SEND_BYTE => send::send_byte(block, here, input),
-        stage::RECV_BYTE => read::recv_byte(block, here, input),
-        stage::READ_ITER => read::blocking_read_iter(block, here, input),
-        stage::GENERATE_STOP => stop::generate_stop(block, here, input),
-        stage::ABORT => abort::abort_transfer(block, input),
-        _ => Asked::refused(),
+        Group::Begin => begin::begins(block, here, input),
+        Group::WaitStop => start::wait_stop_finished(block, here, input),
+        Group::LaunchStart => start::launch_start(block, here, input),
+        Group::Wait => wait::wait_flag(block, here, input),
+        Group::Address => address::address_phase(block, here, input),
+        Group::SendByte => send::send_byte(block, here, input),
+        Group::RecvByte => read::recv_byte(block, here, input),
+        Group::ReadIter => read::blocking_read_iter(block, here, input),
+        Group::GenerateStop => stop::generate_stop(block, here, input),
+        Group::Abort => abort::abort_transfer(block, input),
+        Group::Ended => Asked::refused(),
     }
 }
 
 // The step of a call in the run that `here` tells of, by the numbers of its block.
 #[inline(always)]
-fn step_of(block: &mut [u8; 32], here: Here, group: u8, answer: u16) -> Asked
-    ensures { get_or block.old 3 0 ≡ group → StepHere here answer block.old block.new result }
+fn step_of(block: &mut [u8; 32], here: Here, group: Group, answer: u16) -> Asked
+    ensures { get_or block.old 3 0 ≡ group_number group → StepHere here answer block.old block.new result }
 {
-    let left = bytes32::word_at(block, at::LEFT);
+    let left = block.word(at::LEFT);
     if !ready::is_ready(block, here, left, group) {
         return Asked::refused();
     }
@@ -50,9 +53,12 @@ fn step_of(block: &mut [u8; 32], here: Here, group: u8, answer: u16) -> Asked
 pub fn step_in(block: &mut [u8; 32], here: Here, answer: u16) -> Asked
     ensures { StepIn here answer block.old block.new result }
 {
-    match block[at::GROUP] {
-        stage::ABORT => step_of(block, here, stage::ABORT, answer),
-        stage::BEGIN => step_of(block, here, stage::BEGIN, answer),
+    let Some(group) = Group::of(block[at::GROUP]) else {
+        return Asked::refused();
+    };
+    match group {
+        Group::Abort => step_of(block, here, Group::Abort, answer),
+        Group::Begin => step_of(block, here, Group::Begin, answer),
         group => step_of(block, here, group, answer),
     }
 }

@@ -1,94 +1,92 @@
 // while !check_and_clear_error_flags()?.FLAG() { timeout.check()? }
-ghost use Rattle.std.specs.Prelude.{◌≡◌, ◌&&◌, ltb};
-ghost use Rattle.stage_numbers.specs.MasterStage.{flag_number as flagByte, flag_of, wait_stage_of};
+ghost use Rattle.std.specs.Prelude.{◌≡◌};
+ghost use Rattle.stage_numbers.specs.MasterStage.{flag_number as flagByte};
 ghost use Rattle.master.specs.declared.call.Setting.{Setting};
 ghost use Rattle.master.specs.declared.state.Progress.{Progress};
 ghost use Rattle.operations.specs.declared.search.Run.{Run};
 ghost use Rattle.master.specs.Machine.{is_set, waited, tests, waits};
 ghost use Rattle.master_step.specs.Going.{fits_wait_in};
-ghost use Rattle.master_step.specs.Held.{Goes, Within, StepsWithin, Group};
+ghost use Rattle.master_step.specs.Held.{Goes, Within, Group};
 
 use crate::here::Here;
 use crate::input::Input;
-use crate::{go, here, put, stage};
-use access::{Error, ending, next};
+use crate::{go, put};
+use access::{Error, next};
 use asked::Asked;
-use block::{at, bytes32};
+use block::{Block, at};
 use images::numbers;
+use master::Stage;
+use master::stage::{AddressStage, Flag, Half, ReadStage, RecvStage, StopFor, WaitStage};
 use registers::{Register, bits, flags, word};
+use stage_numbers::Numbered;
 
-fn fits_wait(here: Here, left: u16, what: u8) -> bool
-    ensures { result ≡ ltb what 7 && fits_wait_in here left (flag_of what) }
+fn fits_wait(here: Here, left: u16, flag: Flag) -> bool
+    ensures { result ≡ fits_wait_in here left flag }
 {
-    match what {
-        stage::SB => here::starting(here, left),
-        stage::ADDR => here::starting(here, left),
-        stage::TXE => here::sending(here, left),
-        stage::SENT => here::sending(here, left),
-        stage::THREE => here::last_ones(here, left, 3),
-        stage::TWO => here::last_ones(here, left, 2),
-        stage::RXNE => here::receiving(here, left),
-        _ => false,
+    match flag {
+        Flag::Sb | Flag::Addr => here.starting(left),
+        Flag::Txe | Flag::Sent => here.sending(left),
+        Flag::Three => here.last_ones(left, 3),
+        Flag::Two => here.last_ones(left, 2),
+        Flag::Rxne => here.receiving(left),
     }
 }
 
 // Whether the flag is set in the word that the error check read. RXNE is tested in another.
-fn is_set(what: u8, status: u16) -> bool
-    ensures { result ≡ is_set (flag_of what) status }
+fn is_set(flag: Flag, status: u16) -> bool
+    ensures { result ≡ is_set flag status }
 {
-    match what {
-        stage::SB => word::bit(status, bits::SB),
-        stage::ADDR => word::bit(status, bits::ADDR),
-        stage::TXE => word::bit(status, bits::TXE),
-        stage::SENT => word::bit(status, bits::BTF),
-        stage::THREE => word::bit(status, bits::BTF),
-        stage::TWO => word::bit(status, bits::BTF),
-        _ => true,
+    match flag {
+        Flag::Sb => word::bit(status, bits::SB),
+        Flag::Addr => word::bit(status, bits::ADDR),
+        Flag::Txe => word::bit(status, bits::TXE),
+        Flag::Sent | Flag::Three | Flag::Two => word::bit(status, bits::BTF),
+        Flag::Rxne => true,
     }
 }
 
 // The wait is over.
 #[tactic(auto, using(crate::proofs::Laws::stand_back, crate::proofs::Laws::image, crate::proofs::Laws::place_at))]
-fn waited(block: &mut [u8; 32], here: Here, left: u16, what: u8) -> Asked
-    ensures { Goes here left block.old block.new result (λ (g : Setting) (run : Run) (d : Progress). waited g run (flag_of what) d) }
+fn waited(block: &mut [u8; 32], here: Here, left: u16, flag: Flag) -> Asked
+    ensures { Goes here left block.old block.new result (λ (g : Setting) (run : Run) (d : Progress). waited g run flag d) }
 {
-    match what {
-        stage::SB => {
-            put::to(block, stage::ADDRESS, 0, stage::ADDRESS_CONTROL);
+    match flag {
+        Flag::Sb => {
+            put::to(block, Stage::Address(AddressStage::Control));
             Asked::read(Register::Ctlr1)
         }
-        stage::ADDR => {
+        Flag::Addr => {
             if here.reading & ((left <= 2) & here.nack) {
-                put::to(block, stage::READ_ITER, 0, stage::ACK_READ);
+                put::to(block, Stage::ReadIter(ReadStage::AckRead));
                 return Asked::read(Register::Ctlr1);
             }
-            put::to(block, stage::ADDRESS, 0, stage::ADDRESS_CLEARED);
+            put::to(block, Stage::Address(AddressStage::Cleared));
             Asked::read(Register::Star2)
         }
-        stage::TXE => {
-            let place = bytes32::word_at(block, at::PLACE);
-            put::to(block, stage::SEND_BYTE, 0, 0);
+        Flag::Txe => {
+            let place = block.word(at::PLACE);
+            put::to(block, Stage::SendByte);
             Asked::send(place as u32)
         }
-        stage::SENT => {
+        Flag::Sent => {
             let rest = put::one_less(left);
             put::byte_done(block, rest);
             go::write_bytes(block, here, rest)
         }
-        stage::THREE => {
-            put::to(block, stage::READ_ITER, 0, stage::NACK_READ);
+        Flag::Three => {
+            put::to(block, Stage::ReadIter(ReadStage::NackRead));
             Asked::read(Register::Ctlr1)
         }
-        stage::TWO => {
+        Flag::Two => {
             if here.stops {
-                put::to(block, stage::GENERATE_STOP, stage::STOP_TWO, 0);
+                put::to(block, Stage::GenerateStop(StopFor::Two, Half::Read));
                 return Asked::read(Register::Ctlr1);
             }
-            put::to(block, stage::READ_ITER, 0, stage::AGAIN_READ);
+            put::to(block, Stage::ReadIter(ReadStage::AgainRead));
             Asked::read(Register::Ctlr1)
         }
-        _ => {
-            put::to(block, stage::RECV_BYTE, 0, 0);
+        Flag::Rxne => {
+            put::to(block, Stage::RecvByte(RecvStage::Status));
             Asked::read(Register::Star1)
         }
     }
@@ -96,60 +94,63 @@ fn waited(block: &mut [u8; 32], here: Here, left: u16, what: u8) -> Asked
 
 // No error in the status word: the test.
 #[tactic(auto, using(crate::proofs::Laws::stand_back, crate::proofs::Laws::image))]
-fn tests(block: &mut [u8; 32], here: Here, left: u16, what: u8, status: u16) -> Asked
-    ensures { Within 3 (flagByte (flag_of what)) here left block.old block.new result (λ (g : Setting) (run : Run) (d : Progress). tests g run (flag_of what) d status) }
+fn tests(block: &mut [u8; 32], here: Here, left: u16, flag: Flag, status: u16) -> Asked
+    ensures { Within 3 (flagByte flag) here left block.old block.new result (λ (g : Setting) (run : Run) (d : Progress). tests g run flag d status) }
 {
-    if !is_set(what, status) {
-        put::phase(block, stage::WAIT_CLOCK);
+    if !is_set(flag, status) {
+        put::phase(block, WaitStage::Clock);
         return Asked::clock();
     }
-    waited(block, here, left, what)
+    waited(block, here, left, flag)
 }
 
 #[tactic(auto, using(crate::proofs::Laws::stand_back, crate::proofs::Laws::image, crate::proofs::Laws::word_told, crate::proofs::Laws::chip_at))]
-fn wait_phase(block: &mut [u8; 32], here: Here, input: Input) -> Asked
-    ensures { StepsWithin 3 (flagByte (flag_of input.what)) (ltb input.phase 3) here input.left block.old block.new result (λ (g : Setting) (run : Run) (d : Progress). waits g run (wait_stage_of input.phase) (flag_of input.what) d input.answer) }
+fn wait_phase(block: &mut [u8; 32], here: Here, flag: Flag, phase: WaitStage, input: Input) -> Asked
+    ensures { Within 3 (flagByte flag) here input.left block.old block.new result (λ (g : Setting) (run : Run) (d : Progress). waits g run phase flag d input.answer) }
 {
     let mut status = input.answer;
-    match input.phase {
-        stage::WAIT_STATUS => {
+    match phase {
+        WaitStage::Status => {
             let observed = flags::error_flags(input.answer);
             if observed != 0 {
                 return go::modifies(
                     block,
-                    stage::WAIT_CLEAR,
+                    WaitStage::Clear,
                     input.answer,
                     Register::Star1,
                     flags::clear_error(observed),
                 );
             }
         }
-        stage::WAIT_CLEAR => {
-            status = bytes32::word_at(block, at::WORD);
+        WaitStage::Clear => {
+            status = block.word(at::WORD);
             let chip = numbers::chip_of(block[at::CHIP]);
             if let Some(failure) = errors::error_of(status, chip, true) {
                 return go::fails(block, failure);
             }
         }
-        stage::WAIT_CLOCK => {
+        WaitStage::Clock => {
             if next::late(input.answer) {
-                return go::fails(block, ending::failure_of(Error::Timeout));
+                return go::fails(block, Error::Timeout.into());
             }
-            put::phase(block, stage::WAIT_STATUS);
+            put::phase(block, WaitStage::Status);
             return Asked::read(Register::Star1);
         }
-        _ => {
-            return Asked::refused();
-        }
     }
-    tests(block, here, input.left, input.what, status)
+    tests(block, here, input.left, flag, status)
 }
 
 pub fn wait_flag(block: &mut [u8; 32], here: Here, input: Input) -> Asked
     ensures { Group 3 here input block.old block.new result }
 {
-    if !fits_wait(here, input.left, input.what) {
+    let Some(flag) = Flag::of(input.what) else {
+        return Asked::refused();
+    };
+    let Some(phase) = WaitStage::of(input.phase) else {
+        return Asked::refused();
+    };
+    if !fits_wait(here, input.left, flag) {
         return Asked::refused();
     }
-    wait_phase(block, here, input)
+    wait_phase(block, here, flag, phase, input)
 }

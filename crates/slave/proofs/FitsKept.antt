@@ -48,7 +48,7 @@ use Rattle.slave.specs.Claims.{StatesFit}
 
 -- ---- a command is below 12,288
 
-seven_below : (w : ℕ) → field_of ADD7_1 w < 128
+pub seven_below : (w : ℕ) → field_of ADD7_1 w < 128
 seven_below w = field_bound ADD7_1 w
 
 pub second_below : (w : ℕ) → field_of ADD2 w < 128
@@ -57,7 +57,7 @@ second_below w = field_bound ADD2 w
 ten_below : (w : ℕ) → field_of ADD9_0 w < 1024
 ten_below w = field_bound ADD9_0 w
 
-kind_below : (k : SlaveCommandKind) → kind_number k ≤ 2
+pub kind_below : (k : SlaveCommandKind) → kind_number k ≤ 2
 kind_below GeneralCall = omega arith
 kind_below Read = omega arith
 kind_below Write = omega arith

@@ -38,6 +38,7 @@ pub enum MatchStage {
     Own,
 }
 
+// The halves of a `modify`. (As in crate `master`, which is not below this one.)
 #[derive(Clone, Copy)]
 pub enum Half {
     Read,

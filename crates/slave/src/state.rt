@@ -29,7 +29,7 @@ pub struct Progress {
     pub ending: Ending,
 }
 
-// Where an answer leads.
+// Where an answer leads. (As in crate `master`, which is not below this one.)
 #[derive(Clone, Copy)]
 pub struct Move {
     pub stage: Stage,

@@ -1,19 +1,15 @@
 -- Where a slave call begins, as its block says it and as its machine does.
 -- Assumes nothing.
-use mathlib.Core.Path.{◌≡◌, refl, ap, sym, ◌∙◌}
-use mathlib.Core.List.{List}
+use mathlib.Core.Path.{◌≡◌, refl}
 use Prim.Native.Nat.{ℕ}
 use Rattle.registers.specs.declared.register.Register.TheVariants.{Star1}
 use Rattle.access.specs.declared.need.Need.TheVariants as need
-use Rattle.block.specs.declared.fields.Fields.{Fields}
-use Rattle.block.specs.Bytes32.{bytes_of}
 use Rattle.images.specs.Numbers.{chip_of}
 use Rattle.images.specs.SlaveImage.{slave_fields}
 use Rattle.slave.specs.declared.state.Kind.{Kind}
 use Rattle.slave.specs.declared.state.Kind.TheVariants.{Listen, RespondToWrite, RespondToRead}
 use Rattle.slave.specs.Machine.{owed_at, start}
-use Rattle.access.specs.declared.need.Need.{Need}
-use Rattle.slave_step.specs.Held.{begun_fields, first_fields, Moves}
+use Rattle.slave_step.specs.Held.{begun_fields, first_fields}
 
 -- ---- the numbers, kind by kind
 
@@ -32,12 +28,7 @@ module _ (chip : ℕ) where
 
 -- ---- every kind reads STAR1 first
 
-first_owed : (x : Kind) (chip size : ℕ) → owed_at (record { chip = chip_of chip; kind = x; size = size }) (start x).stage (start x).progress ≡ need.Read Star1
+pub first_owed : (x : Kind) (chip size : ℕ) → owed_at (record { chip = chip_of chip; kind = x; size = size }) (start x).stage (start x).progress ≡ need.Read Star1
 first_owed Listen chip size = refl
 first_owed RespondToWrite chip size = refl
 first_owed RespondToRead chip size = refl
-
-module _ (x : Kind) (chip : ℕ) (f : Fields) (after : List ℕ) (asked : Need) where
-  pub begins : f ≡ first_fields x chip → after ≡ bytes_of f → asked ≡ (need.Read Star1) → (size : ℕ) → Moves (record { chip = chip_of chip; kind = x; size = size }) (start x) after asked
-  unfolding first_fields
-  begins ef eb k size = record { block = eb ∙ ap bytes_of ef; owed = k ∙ sym (first_owed x chip size) }

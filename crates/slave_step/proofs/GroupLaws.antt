@@ -1,29 +1,22 @@
 -- When a stage of a group is taken: its numbers are a stage's, and the group's own test holds.
 -- Assumes nothing.
-use mathlib.Core.Path.{◌≡◌, refl, sym, ap, subst, ◌∙◌}
-use mathlib.Core.Bool.{Bool, true, false, not, ◌&&◌, ◌||◌}
-use Prim.Native.Nat.{ℕ, ◌<◌}
-use native.Mathlib.Omega.{arith}
-use lib.Dec.{eqb, ltb}
-use borrow.Author.Tests.{eqb-true, eqb-false, le-ltb}
-use Rattle.std.proofs.Math.Bool.{and-false, or-false}
-use Rattle.access.specs.Endings.{is_done}
-use Rattle.images.specs.SlaveImage.{kind_of}
-use Rattle.slave.specs.Fits.{is_listen, is_respond_to_write, is_respond_to_read, counts, returns}
-use Rattle.stage_numbers.specs.SlaveStage.{is_stage, stopf_for_number, stopf_for_of}
+use mathlib.Core.Path.{◌≡◌, refl, sym, subst}
+use mathlib.Core.Bool.{Bool, true, false, not, ◌&&◌}
+use Prim.Native.Nat.{ℕ}
+use lib.Dec.{eqb}
+use Rattle.std.proofs.Math.Bool.{and_comm}
+use Rattle.slave.specs.declared.state.Kind.{Kind}
+use Rattle.slave.specs.Fits.{is_listen, is_respond_to_write, is_respond_to_read}
+use Rattle.slave.specs.declared.stage.StopfFor.{StopfFor}
+use Rattle.slave.specs.declared.stage.StopfFor.TheVariants as stopf
+use Rattle.stage_numbers.specs.SlaveStage.{is_stage, stopf_for_number, stopf_for_of, stopf_stage_number, stopf_stage_of, stale_stage_number, stale_stage_of, arm_stage_number, arm_stage_of, match_stage_number, match_stage_of, half_number, half_of, error_stage_number, error_stage_of, abort_stage_number, abort_stage_of}
 use Rattle.access.proofs.Compared.{turned, joined, with_true}
-use Rattle.stage_numbers.proofs.SlaveStageRanges.{stopf_for_range, stopf_stage_range, stale_stage_range, arm_stage_range, match_stage_range, half_range, error_stage_range, abort_stage_range}
-use Rattle.slave_step.specs.Held.{Call, is_seen, fits_in}
-use Rattle.slave_step.proofs.Laws.{listen_told, write_told, read_told, running, ending}
+use Rattle.slave_step.specs.Held.{Call, is_seen, fits_in, is_for}
+use Rattle.slave_step.proofs.Laws.{running, ending}
 
--- ---- what STOPF is cleared for
-
-pub stopf_whole : (w : ℕ) → w < 2 → stopf_for_number (stopf_for_of w) ≡ w
-stopf_whole w h = go (eqb w 0) refl
-  where
-    go : (b : Bool) → eqb w 0 ≡ b → stopf_for_number (stopf_for_of w) ≡ w
-    go true z = rw (eqb-true w 0 z)
-    go false z = let n0 = eqb-false w 0 z in let one : w ≡ 1 = omega arith in rw one
+swapped : (a b c : Bool) → (a && b) && c ≡ (a && c) && b
+swapped true b c = and_comm b c
+swapped false b c = refl
 
 -- ---- the groups: with the count and the ending seen, the numbers decide
 
@@ -32,62 +25,55 @@ module _ (s : Call) where
   unfolding is_stage
   poll_decides w p h = sym (rw (turned 0 w, turned 0 p, running s.setting s.progress true h) (with_true (eqb w 0 && eqb p 0)))
 
-  pub errors_decides : (w p : ℕ) → is_seen s 8 w ≡ true → p < 256 → eqb w 0 && ltb p 2 ≡ fits_in s 8 w p
+  pub errors_decides : (w p : ℕ) → is_seen s 8 w ≡ true → fits_in s 8 w p ≡ eqb w 0 && eqb (error_stage_number (error_stage_of p)) p
   unfolding is_stage
-  errors_decides w p h k = sym (rw (turned 0 w, error_stage_range p k, running s.setting s.progress true h) (with_true (eqb w 0 && ltb p 2)))
+  errors_decides w p h = rw (turned 0 w, running s.setting s.progress true h) (with_true (eqb w 0 && eqb (error_stage_number (error_stage_of p)) p))
 
-  pub abort_decides : (w p : ℕ) → is_seen s 9 w ≡ true → p < 256 → eqb w 0 && ltb p 5 ≡ fits_in s 9 w p
+  pub abort_decides : (w p : ℕ) → is_seen s 9 w ≡ true → fits_in s 9 w p ≡ eqb w 0 && eqb (abort_stage_number (abort_stage_of p)) p
   unfolding is_stage
-  abort_decides w p h k = sym (rw (turned 0 w, abort_stage_range p k, h) (with_true (eqb w 0 && ltb p 5)))
+  abort_decides w p h = rw (turned 0 w, h) (with_true (eqb w 0 && eqb (abort_stage_number (abort_stage_of p)) p))
 
-module _ (s : Call) (entry : ℕ) (kind : s.setting.kind ≡ kind_of entry) where
-  listening_stopf : (p : ℕ) → counts s.setting s.progress && is_done s.progress.ending ≡ true → p < 256 → fits_in s 0 0 p ≡ ltb p 3 && eqb entry 7
+-- what STOPF is cleared for has a number of its own
+pub no_stopf : (s : Call) (w p : ℕ) → eqb (stopf_for_number (stopf_for_of w)) w ≡ false → fits_in s 0 w p ≡ false
+unfolding is_stage
+no_stopf s w p e = rw (e)
+
+module _ (s : Call) (m : Kind) (kind : s.setting.kind ≡ m) where
+  listening_stopf : (p : ℕ) → is_seen s 0 0 ≡ true → fits_in s 0 0 p ≡ is_listen m && eqb (stopf_stage_number (stopf_stage_of p)) p
   unfolding is_stage
-  listening_stopf p e k = rw (stopf_stage_range p k, running s.setting s.progress (is_listen s.setting.kind) e, kind, listen_told entry)
+  listening_stopf p h = rw (running s.setting s.progress (is_listen s.setting.kind) h, kind) (and_comm (eqb (stopf_stage_number (stopf_stage_of p)) p) (is_listen m))
 
-  closing_stopf : (p : ℕ) → counts s.setting s.progress && returns s.setting s.progress ≡ true → p < 256 → fits_in s 0 1 p ≡ ltb p 3 && not (eqb entry 7)
+  closing_stopf : (p : ℕ) → is_seen s 0 1 ≡ true → fits_in s 0 1 p ≡ not (is_listen m) && eqb (stopf_stage_number (stopf_stage_of p)) p
   unfolding is_stage
-  closing_stopf p e k = rw (stopf_stage_range p k, ending s.setting s.progress (not (is_listen s.setting.kind)) e, kind, listen_told entry)
+  closing_stopf p h = rw (ending s.setting s.progress (not (is_listen s.setting.kind)) h, kind) (and_comm (eqb (stopf_stage_number (stopf_stage_of p)) p) (not (is_listen m)))
 
-  no_stopf : (w p : ℕ) → w < 256 → ltb w 2 ≡ false → fits_in s 0 w p ≡ false
+  abbrev Decides : StopfFor → ℕ → ℕ → Type 0
+  Decides x p w = is_seen s 0 w ≡ true → fits_in s 0 w p ≡ is_for m x && eqb (stopf_stage_number (stopf_stage_of p)) p
+
+  pub stopf_decides : (x : StopfFor) (w p : ℕ) → stopf_for_number x ≡ w → Decides x p w
+  stopf_decides stopf.Listen w p e = subst (Decides stopf.Listen p) e (listening_stopf p)
+  stopf_decides stopf.End w p e = subst (Decides stopf.End p) e (closing_stopf p)
+
+  pub stale_decides : (w p : ℕ) → is_seen s 1 w ≡ true → fits_in s 1 w p ≡ (eqb w 0 && is_listen m) && eqb (stale_stage_number (stale_stage_of p)) p
   unfolding is_stage
-  no_stopf w p h e = rw (stopf_for_range w h, e)
+  stale_decides w p h = rw (turned 0 w, running s.setting s.progress (is_listen s.setting.kind) h, kind) (swapped (eqb w 0) (eqb (stale_stage_number (stale_stage_of p)) p) (is_listen m))
 
-  pub stopf_decides : (w p : ℕ) → is_seen s 0 w ≡ true → w < 256 → p < 256 → ltb p 3 && ((eqb w 0 && eqb entry 7) || (eqb w 1 && not (eqb entry 7))) ≡ fits_in s 0 w p
-  stopf_decides w p t h k = sym (go (eqb w 0) (eqb w 1) refl refl)
-    where
-      go : (a b : Bool) → eqb w 0 ≡ a → eqb w 1 ≡ b → fits_in s 0 w p ≡ ltb p 3 && ((eqb w 0 && eqb entry 7) || (eqb w 1 && not (eqb entry 7)))
-      go true b e f =
-          let z : w ≡ 0 = eqb-true w 0 e in
-          let done : is_seen s 0 0 ≡ true = subst (λ (n : ℕ). is_seen s 0 n ≡ true) z t in
-          rw z (listening_stopf p done k ∙ ap (λ (x : Bool). ltb p 3 && x) (sym (or-false (eqb entry 7))))
-      go false true e f =
-          let z : w ≡ 1 = eqb-true w 1 f in
-          let known : is_seen s 0 1 ≡ true = subst (λ (n : ℕ). is_seen s 0 n ≡ true) z t in
-          rw z (closing_stopf p known k)
-      go false false e f =
-          no_stopf w p h (le-ltb w 2 (let n0 = eqb-false w 0 e in let n1 = eqb-false w 1 f in omega arith)) ∙ rw (e, f) (sym (and-false (ltb p 3)))
-
-  pub stale_decides : (w p : ℕ) → is_seen s 1 w ≡ true → p < 256 → eqb w 0 && (ltb p 2 && eqb entry 7) ≡ fits_in s 1 w p
+  pub arm_decides : (w p : ℕ) → is_seen s 2 w ≡ true → fits_in s 2 w p ≡ (eqb w 0 && is_listen m) && eqb (arm_stage_number (arm_stage_of p)) p
   unfolding is_stage
-  stale_decides w p h k = sym (rw (turned 0 w, stale_stage_range p k, running s.setting s.progress (is_listen s.setting.kind) h, kind, listen_told entry) (joined (eqb w 0) (ltb p 2) (eqb entry 7)))
+  arm_decides w p h = rw (turned 0 w, running s.setting s.progress (is_listen s.setting.kind) h, kind) (swapped (eqb w 0) (eqb (arm_stage_number (arm_stage_of p)) p) (is_listen m))
 
-  pub arm_decides : (w p : ℕ) → is_seen s 2 w ≡ true → p < 256 → eqb w 0 && (ltb p 4 && eqb entry 7) ≡ fits_in s 2 w p
+  pub match_decides : (w p : ℕ) → is_seen s 4 w ≡ true → fits_in s 4 w p ≡ (eqb w 0 && is_listen m) && eqb (match_stage_number (match_stage_of p)) p
   unfolding is_stage
-  arm_decides w p h k = sym (rw (turned 0 w, arm_stage_range p k, running s.setting s.progress (is_listen s.setting.kind) h, kind, listen_told entry) (joined (eqb w 0) (ltb p 4) (eqb entry 7)))
+  match_decides w p h = rw (turned 0 w, running s.setting s.progress (is_listen s.setting.kind) h, kind) (swapped (eqb w 0) (eqb (match_stage_number (match_stage_of p)) p) (is_listen m))
 
-  pub match_decides : (w p : ℕ) → is_seen s 4 w ≡ true → p < 256 → eqb w 0 && (ltb p 3 && eqb entry 7) ≡ fits_in s 4 w p
+  pub receive_decides : (w p : ℕ) → is_seen s 5 w ≡ true → eqb w 0 && (eqb p 0 && is_respond_to_write m) ≡ fits_in s 5 w p
   unfolding is_stage
-  match_decides w p h k = sym (rw (turned 0 w, match_stage_range p k, running s.setting s.progress (is_listen s.setting.kind) h, kind, listen_told entry) (joined (eqb w 0) (ltb p 3) (eqb entry 7)))
+  receive_decides w p h = sym (rw (turned 0 w, turned 0 p, running s.setting s.progress (is_respond_to_write s.setting.kind) h, kind) (joined (eqb w 0) (eqb p 0) (is_respond_to_write m)))
 
-  pub receive_decides : (w p : ℕ) → is_seen s 5 w ≡ true → eqb w 0 && (eqb p 0 && eqb entry 8) ≡ fits_in s 5 w p
+  pub send_decides : (w p : ℕ) → is_seen s 6 w ≡ true → eqb w 0 && (eqb p 0 && is_respond_to_read m) ≡ fits_in s 6 w p
   unfolding is_stage
-  receive_decides w p h = sym (rw (turned 0 w, turned 0 p, running s.setting s.progress (is_respond_to_write s.setting.kind) h, kind, write_told entry) (joined (eqb w 0) (eqb p 0) (eqb entry 8)))
+  send_decides w p h = sym (rw (turned 0 w, turned 0 p, running s.setting s.progress (is_respond_to_read s.setting.kind) h, kind) (joined (eqb w 0) (eqb p 0) (is_respond_to_read m)))
 
-  pub send_decides : (w p : ℕ) → is_seen s 6 w ≡ true → eqb w 0 && (eqb p 0 && (not (eqb entry 7) && not (eqb entry 8))) ≡ fits_in s 6 w p
+  pub af_decides : (w p : ℕ) → is_seen s 7 w ≡ true → fits_in s 7 w p ≡ (eqb w 0 && is_respond_to_read m) && eqb (half_number (half_of p)) p
   unfolding is_stage
-  send_decides w p h = sym (rw (turned 0 w, turned 0 p, running s.setting s.progress (is_respond_to_read s.setting.kind) h, kind, read_told entry) (joined (eqb w 0) (eqb p 0) (not (eqb entry 7) && not (eqb entry 8))))
-
-  pub af_decides : (w p : ℕ) → is_seen s 7 w ≡ true → p < 256 → eqb w 0 && (ltb p 2 && (not (eqb entry 7) && not (eqb entry 8))) ≡ fits_in s 7 w p
-  unfolding is_stage
-  af_decides w p h k = sym (rw (turned 0 w, half_range p k, ending s.setting s.progress (is_respond_to_read s.setting.kind) h, kind, read_told entry) (joined (eqb w 0) (ltb p 2) (not (eqb entry 7) && not (eqb entry 8))))
+  af_decides w p h = rw (turned 0 w, ending s.setting s.progress (is_respond_to_read s.setting.kind) h, kind) (swapped (eqb w 0) (eqb (half_number (half_of p)) p) (is_respond_to_read m))

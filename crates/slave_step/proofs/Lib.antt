@@ -1,5 +1,6 @@
 pub mod Laws
-pub mod StoreImage
+pub mod PutLaws
+pub mod KindLaws
 pub mod GroupLaws
 pub mod MoveLaws
 pub mod ReadyLaws

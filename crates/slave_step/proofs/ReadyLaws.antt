@@ -22,15 +22,15 @@ returns_told k size count n v x = go (eqb n 0) refl
     go true z = ap (λ (b : Bool). b && can_return k size count v x) z ∙ as_returned (λ (e : Ending). can_return k size count v x ≡ returns_in k size count e) n v x z refl
     go false z = ap (λ (b : Bool). b && can_return k size count v x) z ∙ as_failed (λ (e : Ending). false ≡ returns_in k size count e) n v x z (λ f. refl)
 
-module _ (block : List ℕ) (entry size group what count : ℕ) (n : count ≡ long_at block 24) {a b : Bool} where
-  pub seen_closing : true ≡ closing group what → a ≡ leb count (limit (kind_of entry) size) → b ≡ returns_in (kind_of entry) size count (ending_at block) → a && b ≡ is_seen (said_in entry size (fields_of block)) group what
+module _ (block : List ℕ) (k : Kind) (size group what count : ℕ) (n : count ≡ long_at block 24) {a b : Bool} where
+  pub seen_closing : true ≡ closing group what → a ≡ leb count (limit k size) → b ≡ returns_in k size count (ending_at block) → (entry : ℕ) → k ≡ kind_of entry → a && b ≡ is_seen (said_in entry size (fields_of block)) group what
   unfolding fields_of slave_of
-  seen_closing c p q = rw (p, q, n, ← c)
+  seen_closing c p q entry e = rw (p, q, n, ← c, e)
 
-  pub seen_failed : false ≡ closing group what → group ≡ 9 → a ≡ leb count (limit (kind_of entry) size) → b ≡ has_failed_at false block → a && b ≡ is_seen (said_in entry size (fields_of block)) group what
+  pub seen_failed : false ≡ closing group what → group ≡ 9 → a ≡ leb count (limit k size) → b ≡ has_failed_at false block → (entry : ℕ) → k ≡ kind_of entry → a && b ≡ is_seen (said_in entry size (fields_of block)) group what
   unfolding fields_of slave_of
-  seen_failed c k p q = rw (p, q, n, ← c, k)
+  seen_failed c g p q entry e = rw (p, q, n, ← c, g, e)
 
-  pub seen_done : false ≡ closing group what → (group ≡ 9 → ⊥) → a ≡ leb count (limit (kind_of entry) size) → b ≡ is_done (ending_at block) → a && b ≡ is_seen (said_in entry size (fields_of block)) group what
+  pub seen_done : false ≡ closing group what → (group ≡ 9 → ⊥) → a ≡ leb count (limit k size) → b ≡ is_done (ending_at block) → (entry : ℕ) → k ≡ kind_of entry → a && b ≡ is_seen (said_in entry size (fields_of block)) group what
   unfolding fields_of slave_of
-  seen_done c k p q = rw (p, q, n, ← c, ne_eqb _ _ k)
+  seen_done c g p q entry e = rw (p, q, n, ← c, ne_eqb _ _ g, e)

@@ -11,7 +11,6 @@ use lib.ListN.{get_or}
 use borrow.Author.Tests.{eq-eqb, le-leb, ltb-false}
 use Rattle.std.specs.Prelude.{Some, None, Option}
 use Rattle.registers.specs.declared.chip.Chip.{Chip}
-use Rattle.access.specs.declared.ending.Error.{Error}
 use Rattle.access.specs.declared.ending.Error.TheVariants.{BufferTooLong, InvalidState}
 use Rattle.access.specs.declared.need.Need.TheVariants.{Keep, End}
 use Rattle.access.specs.Endings.{failed}
@@ -20,14 +19,13 @@ use Rattle.stage_numbers.specs.SlaveStage.{stage_what, stage_phase, stage_of}
 use Rattle.stage_numbers.proofs.SlaveStageLaws.{stage_back}
 use Rattle.access.proofs.Choice.{both_true, first_true, second_true}
 use Rattle.block.specs.declared.fields.Fields.{Fields}
-use Rattle.block.specs.Bytes32.{fields_of, bytes_of, long_at}
+use Rattle.block.specs.Bytes32.{bytes_of, long_at}
 use Rattle.block.proofs.Codec.{said_back}
 use Rattle.images.specs.SlaveImage.{kind_entry, slave_fields, slave_in}
 use Rattle.images.proofs.SlaveImageLaws.{slave_found}
 use Rattle.slave.specs.declared.state.Kind.{Kind}
 use Rattle.slave.specs.declared.state.State.{State}
 use Rattle.slave.specs.Machine.{owed_at, advance, advance_at, start}
-use Rattle.slave.specs.Fits.{fits}
 use Rattle.slave.specs.Calls.{size_refusal}
 use Rattle.slave.specs.Steps.{state_at, setting_in, move_of, need_of, fits_lent}
 use Rattle.slave.specs.declared.state.Progress.{Progress}

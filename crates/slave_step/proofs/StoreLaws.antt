@@ -2,22 +2,13 @@
 -- Assumes nothing.
 use Prim.Native.Nat.{ℕ}
 use native.Mathlib.Omega.{arith}
-use mathlib.Core.Path.{◌≡◌, refl, sym, ap, ◌∙◌}
-use mathlib.Core.Bool.{Bool, true, false, cond, not, ◌&&◌, true≢false}
+use mathlib.Core.Path.{◌≡◌, refl, sym, ap}
+use mathlib.Core.Bool.{Bool, true, false, cond, true≢false}
 use mathlib.Core.List.{List}
 use lib.Dec.{eqb, ltb}
-use lib.ListN.{get_or, set}
-use borrow.Author.Tests.{eqb-true, eqb-false}
+use lib.ListN.{get_or}
 use Rattle.std.specs.Prelude.{Some, None}
-use Rattle.registers.specs.Word.{field_of}
-use Rattle.registers.specs.Fields.{DATA}
-use Rattle.registers.specs.declared.chip.Chip.{Chip}
-use Rattle.access.specs.declared.ending.Error.TheVariants.{InvalidState}
-use Rattle.access.specs.declared.need.Need.{Need}
 use Rattle.access.specs.declared.need.Need.TheVariants as need
-use Rattle.access.specs.Endings.{failed}
-use Rattle.access.specs.Machine.{kept}
-use Rattle.access.proofs.Choice.{first_true, second_true, when_true, when_false}
 use Rattle.block.specs.declared.fields.Fields.{Fields}
 use Rattle.block.specs.Bytes32.{fields_of, long_at}
 use Rattle.images.specs.SlaveImage.{slave_fields, slave_in}
@@ -31,16 +22,13 @@ use Rattle.slave.specs.declared.stage.ErrorStage.TheVariants as errors
 use Rattle.slave.specs.declared.stage.AbortStage.TheVariants as abort
 use Rattle.slave.specs.declared.stage.Stage.{Stage}
 use Rattle.slave.specs.declared.stage.Stage.TheVariants as stage
-use Rattle.slave.specs.declared.state.Kind.{Kind}
 use Rattle.slave.specs.declared.state.Progress.{Progress}
 use Rattle.slave.specs.declared.state.Setting.{Setting}
 use Rattle.slave.specs.declared.state.State.{State}
 use Rattle.slave.specs.Machine.{owed_at, advance_at}
-use Rattle.slave.specs.Steps.{setting_in, need_of, is_open}
-use Rattle.stage_numbers.specs.SlaveStage.{stage_of, stage_group, stage_what, stage_phase}
-use Rattle.stage_numbers.proofs.SlaveStageLaws.{stage_back}
+use Rattle.stage_numbers.specs.SlaveStage.{stage_group}
 use Rattle.asked.specs.Asked.{is_keep, kept_place, need_number}
-use Rattle.slave_step.specs.Held.{held_in, StepsFrom, StoresFrom}
+use Rattle.slave_step.specs.Held.{held_in}
 
 received_place : (b : Bool) (n : ℕ) → kept_place (cond b (need.Keep n) need.Drop) ≡ cond (is_keep (cond b (need.Keep n) need.Drop)) (Some n) None
 received_place true n = refl

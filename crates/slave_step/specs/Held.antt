@@ -1,6 +1,6 @@
 -- The block of a slave call, and what a store, a move, a refusal and a group of stages make of it. What they are held to is crate slave's
 -- machine, `advance_at`, `owed_at` and `fits_at`, and crate images' bytes, `bytes_of (slave_fields ..)`.
-use Rattle.std.specs.Prelude.{◌≡◌, Bool, true, false, cond, ◌&&◌, ◌||◌, List, ℕ, eqb, ltb, Option, Some, None}
+use Rattle.std.specs.Prelude.{◌≡◌, Bool, true, false, cond, not, ◌&&◌, ◌||◌, List, ℕ, eqb, ltb, length, Option, Some, None}
 use Rattle.registers.specs.declared.chip.Chip.{Chip}
 use Rattle.access.specs.declared.ending.Error.TheVariants.{InvalidState}
 use Rattle.access.specs.declared.need.Need.TheVariants as need
@@ -8,7 +8,7 @@ use Rattle.access.specs.Endings.{failed, is_done, ending_error, ending_value, en
 use Rattle.errors.specs.Met.{has_failed}
 use Rattle.access.specs.Machine.{kept as stored}
 use Rattle.block.specs.declared.fields.Fields.{Fields}
-use Rattle.block.specs.Bytes32.{bytes_of, fields_of}
+use Rattle.block.specs.Bytes32.{bytes_of, fields_of, block_size}
 use Rattle.images.specs.Numbers.{chip_number, chip_of}
 use Rattle.images.specs.SlaveImage.{kind_entry, kind_of, slave_fields, slave_of, slave_in}
 use Rattle.slave.specs.declared.state.Kind.{Kind}
@@ -16,7 +16,9 @@ use Rattle.slave.specs.declared.state.Move.{Move}
 use Rattle.slave.specs.declared.state.Progress.{Progress}
 use Rattle.slave.specs.declared.state.Setting.{Setting}
 use Rattle.slave.specs.Machine.{owed_at, advance_at, start}
-use Rattle.slave.specs.Fits.{counts, returns, fits_at}
+use Rattle.slave.specs.declared.stage.StopfFor.{StopfFor}
+use Rattle.slave.specs.declared.stage.StopfFor.TheVariants as stopf
+use Rattle.slave.specs.Fits.{is_listen, counts, returns, fits_at}
 use Rattle.slave.specs.Steps.{state_at, setting_in, need_of, is_open, fits_lent}
 use Rattle.slave.specs.declared.state.State.{State}
 use Rattle.stage_numbers.specs.SlaveStage.{is_stage, stage_of}
@@ -38,6 +40,14 @@ begun_fields entry chip group = record { entry = entry; chip = chip_number (chip
 -- where a call of a kind begins
 unfoldable pub first_fields : Kind → ℕ → Fields
 first_fields kind chip = slave_fields (state_at (record { chip = chip_of chip; kind = kind; size = 0 }) (start kind))
+
+-- stores that change the progress as f says, and the numbers of the stage
+pub record Puts (before after : List ℕ) (f : Progress → Progress) (group what phase : ℕ → ℕ) : Type 0 where
+  pub size : length after ≡ block_size
+  pub block : (g : Setting) (d : Progress) (n w p : ℕ) → before ≡ block_at g d n w p → after ≡ block_at g (f d) (group n) (what w) (phase p)
+
+abbrev pub kept : ℕ → ℕ
+kept n = n
 
 -- what a step goes by, where this is the entry's number and so many bytes are lent
 abbrev pub setting_at : Chip → ℕ → ℕ → Setting
@@ -90,6 +100,11 @@ ready_at g d group what = counts g d && ends_at g d group what
 abbrev pub is_seen : Call → ℕ → ℕ → Bool
 is_seen s group what = ready_at s.setting s.progress group what
 
+-- what STOPF is cleared for in a call of the kind: before listening, or at the end of a response
+abbrev pub is_for : Kind → StopfFor → Bool
+is_for kind stopf.Listen = is_listen kind
+is_for kind stopf.End = not (is_listen kind)
+
 -- whether a call is at a stage of these numbers, which fits
 abbrev pub fits_in : Call → ℕ → ℕ → ℕ → Bool
 fits_in s group what phase = is_stage group what phase && fits_at s.setting (stage_of group what phase) s.progress
@@ -98,7 +113,7 @@ fits_in s group what phase = is_stage group what phase && fits_at s.setting (sta
 pub record Stands (s : Call) (here : Here) (group : ℕ) (block : List ℕ) : Type 0 where
   pub held : image s group here.what here.phase ≡ block
   pub seen : is_seen s group here.what ≡ true
-  pub kind : s.setting.kind ≡ kind_of here.entry
+  pub kind : s.setting.kind ≡ here.kind
   pub lent : s.setting.size ≡ here.size
   pub counted : s.progress.count ≡ here.count
 

@@ -6,8 +6,8 @@ ghost use Rattle.slave_step.specs.Held.{begun_fields, first_fields, Moves};
 
 use crate::stage;
 use asked::Asked;
-use block::{Fields, bytes32};
-use images::numbers;
+use block::Fields;
+use images::numbers::{self, Entry};
 use registers::Register;
 use slave::Kind;
 
@@ -19,24 +19,8 @@ fn begun_fields(entry: u8, chip: u8, group: u8) -> Fields
     Fields {
         entry,
         chip: numbers::chip_number(numbers::chip_of(chip)),
-        option: 0,
         stage: group,
-        what: 0,
-        phase: 0,
-        marks: 0,
-        error: 0,
-        address: 0,
-        run: 0,
-        left: 0,
-        place: 0,
-        word: 0,
-        divider: 0,
-        rise: 0,
-        value: 0,
-        count: 0,
-        second: 0,
-        mhz: 0,
-        extra: 0,
+        ..Fields::default()
     }
 }
 
@@ -46,16 +30,17 @@ fn first_fields(kind: Kind, chip: u8) -> Fields
     ensures { result ≡ first_fields kind chip }
 {
     match kind {
-        Kind::Listen => begun_fields(numbers::LISTEN, chip, stage::CLEAR_STOPF),
-        Kind::RespondToWrite => begun_fields(numbers::RESPOND_TO_WRITE, chip, stage::POLL),
-        Kind::RespondToRead => begun_fields(numbers::RESPOND_TO_READ, chip, stage::POLL),
+        Kind::Listen => begun_fields(Entry::Listen as u8, chip, stage::CLEAR_STOPF),
+        Kind::RespondToWrite => begun_fields(Entry::RespondToWrite as u8, chip, stage::POLL),
+        Kind::RespondToRead => begun_fields(Entry::RespondToRead as u8, chip, stage::POLL),
     }
 }
 
 // Both read STAR1 first.
+#[tactic(auto, using(crate::proofs::BeginLaws::first_owed), unfolding(crate::specs::Held::first_fields))]
 pub fn begin(block: &mut [u8; 32], kind: Kind, chip: u8) -> Asked
     ensures { (size : ℕ) → Moves (record { chip = chip_of chip; kind = kind; size = size }) (start kind) block.new result }
 {
-    bytes32::put(block, first_fields(kind, chip));
+    *block = first_fields(kind, chip).into();
     Asked::read(Register::Star1)
 }

@@ -10,7 +10,7 @@ ghost use Rattle.asked.specs.Asked.{is_keep};
 use crate::stage;
 
 // Whether the access that is owed at these numbers is a byte to keep, with so many bytes lent. Its place is the count; a byte past the
-// buffer is dropped.
+// buffer is dropped. (Numbers: a block may hold any.)
 #[tactic(auto, using(crate::proofs::StepLaws::kept_told))]
 pub fn is_kept(group: u8, size: usize, count: u32) -> bool
     ensures { (chip : Chip) (x : Kind) (d : Progress) (what phase : ℕ) → count ≡ d.count → result ≡ is_keep (owed_at (record { chip = chip; kind = x; size = size }) (stage_of group what phase) d) }

@@ -11,7 +11,6 @@ mod here;
 pub mod keep;
 mod listen;
 mod poll;
-pub mod put;
 mod ready;
 mod receive;
 mod send;

@@ -1,23 +1,27 @@
 // A turn of the three loops, by its status word; errors and the clock, where a turn finds nothing to do.
 #![tactic(auto, unfolding(block::specs::Bytes32::bytes_of, images::specs::SlaveImage::slave_fields, crate::specs::Held::block_at, crate::specs::Held::fields_at))]
 
-ghost use Rattle.std.specs.Prelude.{◌≡◌, ◌≤◌, pred};
+ghost use Rattle.std.specs.Prelude.{◌≡◌, ◌≤◌};
 ghost use Rattle.registers.specs.declared.register.Register.TheVariants.{Star1};
 ghost use Rattle.access.specs.declared.need.Need.TheVariants as need;
 ghost use Rattle.access.specs.Endings.{returned_both};
+ghost use Rattle.block.specs.Bytes32.{at_stage};
+ghost use Rattle.images.specs.EndImage.{with_ending};
 ghost use Rattle.slave.specs.declared.stage.ErrorStage.TheVariants as errors;
 ghost use Rattle.slave.specs.Machine.{slave_handle_errors, blocking_listen, blocking_respond_to_write, blocking_respond_to_read, leftover, sent_taken_off, check_errors_and_time};
-ghost use Rattle.stage_numbers.specs.SlaveStage.{error_stage_of};
+ghost use Rattle.stage_numbers.specs.SlaveStage.{error_stage_number};
 ghost use Rattle.slave_step.specs.Held.{Call, image, Stands, Group, Moves};
-ghost use Rattle.slave_step.specs.Stores.{at_stage, with_ending};
 
+use crate::go;
 use crate::here::Here;
-use crate::{go, put, stage};
 use access::{Error, ending, next};
 use asked::Asked;
-use block::{at, bytes32};
-use images::numbers;
+use block::{Block, at};
+use images::{end_image, numbers};
 use registers::{Register, bits, flags, word};
+use slave::stage::{ErrorStage, Half, MatchStage, StopfFor, StopfStage};
+use slave::{Kind, Stage};
+use stage_numbers::Numbered;
 
 // The status word: its error flags are to be cleared, or there is none.
 fn slave_handle_errors(block: &mut [u8; 32], status: u16) -> Asked
@@ -27,11 +31,11 @@ fn slave_handle_errors(block: &mut [u8; 32], status: u16) -> Asked
 {
     let observed = flags::error_flags(status);
     if observed != 0 {
-        put::saves(block, status);
-        put::to(block, stage::ERRORS, 0, stage::ERRORS_CLEAR);
+        block.put_word(at::WORD, status);
+        go::to(block, Stage::Errors(ErrorStage::Clear));
         return Asked::write(Register::Star1, flags::clear_error(observed));
     }
-    put::to(block, stage::ERRORS, 0, stage::ERRORS_CLOCK);
+    go::to(block, Stage::Errors(ErrorStage::Clock));
     Asked::clock()
 }
 
@@ -41,7 +45,7 @@ fn blocking_listen(block: &mut [u8; 32], status: u16) -> Asked
     ensures { Moves s.setting (blocking_listen s.progress status) block.new result }
 {
     if word::bit(status, bits::ADDR) {
-        put::to(block, stage::MATCH, 0, stage::MATCH_STATUS);
+        go::to(block, Stage::Match(MatchStage::Status));
         return Asked::read(Register::Star2);
     }
     slave_handle_errors(block, status)
@@ -52,13 +56,8 @@ fn stops(block: &mut [u8; 32], value: u16, second: u16) -> Asked
     ensures block { block.new ≡ at_stage 0 1 0 (with_ending (returned_both value second) block.old) }
     ensures asks { result ≡ need.Read Star1 }
 {
-    put::ending(block, ending::returned_both(value, second));
-    put::to(
-        block,
-        stage::CLEAR_STOPF,
-        stage::FOR_END,
-        stage::STOPF_STATUS,
-    );
+    end_image::put(block, ending::returned_both(value, second));
+    go::to(block, Stage::ClearStopf(StopfFor::End, StopfStage::Status));
     Asked::read(Register::Star1)
 }
 
@@ -72,7 +71,7 @@ fn blocking_respond_to_write(block: &mut [u8; 32], size: u16, count: u32, status
     ensures { Moves s.setting (blocking_respond_to_write s.progress status) block.new result }
 {
     if word::bit(status, bits::RXNE) {
-        put::to(block, stage::RECEIVE, 0, 0);
+        go::to(block, Stage::Receive);
         if count < size as u32 {
             return Asked::keep(count);
         }
@@ -91,17 +90,7 @@ fn blocking_respond_to_write(block: &mut [u8; 32], size: u16, count: u32, status
 pub fn left_over(size: u16, sent: u32) -> u16
     ensures { result ≡ leftover size sent }
 {
-    if sent < size as u32 {
-        size - sent as u16
-    } else {
-        0
-    }
-}
-
-pub fn one_less(n: u32) -> u32
-    ensures { result ≡ pred n }
-{
-    if 0 < n { n - 1 } else { 0 }
+    (size as u32).saturating_sub(sent) as u16
 }
 
 // With TXE clear the last byte was not clocked out.
@@ -111,7 +100,7 @@ fn taken_off(status: u16, sent: u32) -> u32
     if word::bit(status, bits::TXE) {
         sent
     } else {
-        one_less(sent)
+        sent.saturating_sub(1)
     }
 }
 
@@ -127,8 +116,8 @@ fn blocking_respond_to_read(block: &mut [u8; 32], size: u16, count: u32, status:
     if word::bit(status, bits::AF) {
         let left = left_over(size, count);
         let second = left_over(size, taken_off(status, count));
-        put::ending(block, ending::returned_both(left, second));
-        put::to(block, stage::CLEAR_AF, 0, stage::HALF_READ);
+        end_image::put(block, ending::returned_both(left, second));
+        go::to(block, Stage::ClearAf(Half::Read));
         return Asked::read(Register::Star1);
     }
     if word::bit(status, bits::STOPF) {
@@ -140,15 +129,15 @@ fn blocking_respond_to_read(block: &mut [u8; 32], size: u16, count: u32, status:
         return go::returns(block, left, left);
     }
     if word::bit(status, bits::TXE) {
-        put::to(block, stage::SEND, 0, 0);
+        go::to(block, Stage::Send);
         return Asked::send(count);
     }
     slave_handle_errors(block, status)
 }
 
-// let star1 = regs.star1().read()
+// let star1 = regs.star1().read(). (What the call makes of the word by a `match`, as in `step_at`.)
 #[inline(always)]
-#[tactic(auto, using(crate::proofs::GroupLaws::poll_decides, crate::proofs::MoveLaws::room, crate::proofs::Laws::reads))]
+#[tactic(auto, using(crate::proofs::GroupLaws::poll_decides, crate::proofs::MoveLaws::room))]
 pub fn polls(block: &mut [u8; 32], here: Here) -> Asked
     ghost s: { Call }
     requires { Stands s here 3 block.old }
@@ -157,15 +146,15 @@ pub fn polls(block: &mut [u8; 32], here: Here) -> Asked
     if !((here.what == 0) & (here.phase == 0)) {
         return Asked::refused();
     }
-    match here.entry {
-        numbers::LISTEN => blocking_listen(block, here.answer),
-        numbers::RESPOND_TO_WRITE => blocking_respond_to_write(
+    match here.kind {
+        Kind::Listen => blocking_listen(block, here.answer),
+        Kind::RespondToWrite => blocking_respond_to_write(
             block,
             here.size,
             here.count,
             here.answer,
         ),
-        _ => blocking_respond_to_read(block, here.size, here.count, here.answer),
+        Kind::RespondToRead => blocking_respond_to_read(block, here.size, here.count, here.answer),
     }
 }
 
@@ -176,11 +165,11 @@ fn judged(block: &mut [u8; 32]) -> Asked
     requires { image s 8 0 0 ≡ block.old }
     ensures { Moves s.setting (check_errors_and_time s.setting.chip errors.Clear s.progress 0) block.new result }
 {
-    let status = bytes32::word_at(block, at::WORD);
+    let status = block.word(at::WORD);
     let chip = numbers::chip_of(block[at::CHIP]);
     match errors::error_of(status, chip, false) {
         None => {
-            put::phase(block, stage::ERRORS_CLOCK);
+            block.phase(ErrorStage::Clock.number());
             Asked::clock()
         }
         Some(failure) => go::fails(block, failure),
@@ -188,32 +177,34 @@ fn judged(block: &mut [u8; 32]) -> Asked
 }
 
 // slave_handle_errors(star1)?; timeout.check().ok_or(Error::Timeout)?
-fn error_phase(block: &mut [u8; 32], phase: u8, answer: u16) -> Asked
+fn error_phase(block: &mut [u8; 32], phase: ErrorStage, answer: u16) -> Asked
     ghost s: { Call }
-    requires { image s 8 0 phase ≡ block.old }
-    ensures { Moves s.setting (check_errors_and_time s.setting.chip (error_stage_of phase) s.progress answer) block.new result }
+    requires { image s 8 0 (error_stage_number phase) ≡ block.old }
+    ensures { Moves s.setting (check_errors_and_time s.setting.chip phase s.progress answer) block.new result }
 {
     match phase {
-        stage::ERRORS_CLEAR => judged(block),
-        _ => {
+        ErrorStage::Clear => judged(block),
+        ErrorStage::Clock => {
             if next::late(answer) {
-                return go::fails(block, ending::failure_of(Error::Timeout));
+                return go::fails(block, Error::Timeout.into());
             }
-            put::to(block, stage::POLL, 0, 0);
+            go::to(block, Stage::Poll);
             Asked::read(Register::Star1)
         }
     }
 }
 
 #[inline(always)]
-#[tactic(auto, using(crate::proofs::GroupLaws::errors_decides))]
 pub fn check_errors_and_time(block: &mut [u8; 32], here: Here) -> Asked
     ghost s: { Call }
     requires { Stands s here 8 block.old }
     ensures { Group 8 s here block.old block.new result }
 {
-    if !((here.what == 0) & (here.phase < 2)) {
+    let Some(phase) = ErrorStage::of(here.phase) else {
+        return Asked::refused();
+    };
+    if here.what != 0 {
         return Asked::refused();
     }
-    error_phase(block, here.phase, here.answer)
+    error_phase(block, phase, here.answer)
 }

@@ -5,7 +5,6 @@ ghost use Rattle.slave_step.specs.Held.{Call, Stands, Group};
 use crate::go;
 use crate::here::Here;
 use asked::Asked;
-use images::numbers;
 
 // let byte = regs.datar().read().datar(): it counts where there was room for it.
 #[inline(always)]
@@ -15,7 +14,7 @@ pub fn received(block: &mut [u8; 32], here: Here) -> Asked
     requires { Stands s here 5 block.old }
     ensures { Group 5 s here block.old block.new result }
 {
-    if !((here.what == 0) & ((here.phase == 0) & (here.entry == numbers::RESPOND_TO_WRITE))) {
+    if !((here.what == 0) & ((here.phase == 0) & here.receives())) {
         return Asked::refused();
     }
     go::counts(block, here.count, here.size as u32)

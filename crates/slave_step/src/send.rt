@@ -5,7 +5,6 @@ ghost use Rattle.slave_step.specs.Held.{Call, Stands, Group};
 use crate::go;
 use crate::here::Here;
 use asked::Asked;
-use images::numbers;
 
 // regs.datar().write(|reg| reg.set_datar(..)): the count stops at one more than the data has.
 #[inline(always)]
@@ -15,10 +14,7 @@ pub fn sent(block: &mut [u8; 32], here: Here) -> Asked
     requires { Stands s here 6 block.old }
     ensures { Group 6 s here block.old block.new result }
 {
-    if !((here.what == 0)
-        & ((here.phase == 0)
-            & ((here.entry != numbers::LISTEN) & (here.entry != numbers::RESPOND_TO_WRITE))))
-    {
+    if !((here.what == 0) & ((here.phase == 0) & here.replies())) {
         return Asked::refused();
     }
     go::counts(block, here.count, here.size as u32 + 1)

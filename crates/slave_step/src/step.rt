@@ -3,12 +3,13 @@ ghost use Rattle.std.specs.Prelude.{◌≡◌, get_or};
 ghost use Rattle.slave_step.specs.Held.{Call, Stands, Step, StepsFrom, held_in};
 
 use crate::here::Here;
-use crate::{abort, clear, held, listen, poll, put, ready, receive, send, stage};
+use crate::{abort, clear, held, here, listen, poll, ready, receive, send, stage};
 use asked::Asked;
-use block::at;
+use block::{Block, at};
 use images::end_image;
 
-// By the group of its stage. A call that has ended takes no step, and no stage is of another group.
+// By the group of its stage. A call that has ended takes no step, and no stage is of another group. (A `match`: a table of functions cannot be handed out, and
+// costs an indirect call.)
 #[inline(always)]
 #[tactic(auto, using(crate::proofs::StepLaws::no_group))]
 fn step_at(block: &mut [u8; 32], here: Here, group: u8) -> Asked
@@ -41,9 +42,9 @@ fn step_of(block: &mut [u8; 32], entry: u8, size: usize, group: u8, answer: u16)
         return Asked::refused();
     }
     let here = Here {
-        entry,
+        kind: here::kind_of(entry),
         size: size as u16,
-        count: put::count_at(block),
+        count: block.long(at::COUNT),
         what: block[at::WHAT],
         phase: block[at::PHASE],
         answer,
@@ -56,7 +57,8 @@ fn step_of(block: &mut [u8; 32], entry: u8, size: usize, group: u8, answer: u16)
     step_at(block, here, group)
 }
 
-// The groups of a response's loop are apart from the others, so that each has a step in which the compiler knows the group.
+// The groups of a response's loop are apart from the others, so that each has a step in which the compiler knows the group. (By the entry's number, of which any
+// is taken: a type would ask more of callers.)
 #[inline(always)]
 pub fn step(block: &mut [u8; 32], entry: u8, size: usize, answer: u16) -> Asked
     ensures { StepsFrom (held_in entry block.old) size answer block.old block.new result }

@@ -2,3 +2,4 @@ pub mod MasterStageLaws
 pub mod MasterStageRanges
 pub mod SlaveStageLaws
 pub mod SlaveStageRanges
+pub mod NumberedLaws

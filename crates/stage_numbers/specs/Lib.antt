@@ -1,2 +1,3 @@
 pub mod MasterStage
 pub mod SlaveStage
+pub mod MasterGroup

@@ -5,19 +5,12 @@ use Rattle.master_step.specs.declared.here.Here.{Here}
 use Rattle.master_step.specs.Held.{block_at, on, run_in}
 use Rattle.master_step.proofs.Laws.{puts_told}
 use Rattle.master_step.proofs.StepLaws.{run_told, goes_told}
-use Rattle.master_call.proofs.BeginLaws.{starts_ended, starts_first, starts_write, begun_block}
+use Rattle.master_call.proofs.BeginLaws.{starts_write, begun_block}
 use Rattle.master_call.proofs.begin.starts.Goals as goal
-
-pub returns-then-here : goal.returns-then-here
-returns-then-here c =
-    rw c.in-Some.is (starts_first c.args.call c.in-Some.run' _ c.here_of-here.ensures _ _ (begun_block _ _ _ c.begun_fields-in-Some.ensures c.put-in-Some.ensures) c.if-here.true c.read.ensures)
-
-pub returns-in-None : goal.returns-in-None
-returns-in-None c = rw c.in-None.is (starts_ended _ _ _ _ c.begun_fields.ensures c.put.ensures c.done.ensures)
 
 pub returns-else-here : goal.returns-else-here
 returns-else-here c =
-    let block = begun_block _ _ _ c.begun_fields-in-Some.ensures c.put-in-Some.ensures in
+    let block = begun_block _ _ _ c.begun_fields-in-Some.ensures c.into-in-Some.ensures in
     let here = c.here_of-here.ensures in
     let put = puts_told (on (begun (run_in c.here_of-here.result))) c.args.call fresh 0 0 0 c.begun.ensures (sym block) in
     let begun_at : block_at c.args.call (begun c.in-Some.run' fresh) 0 0 0 ≡ c.begun.new.block =

@@ -1,13 +1,20 @@
 -- `master_step::step::step_in` meets its contract.
-use Rattle.std.proofs.Common.{refl}
+use Rattle.std.proofs.Common.{sym, ap, ◌∙◌}
+use lib.ListN.{get_or}
+use Rattle.stage_numbers.specs.MasterGroup.{group_number, group_of}
+use Rattle.stage_numbers.proofs.NumberedLaws.{told, number_told}
 use Rattle.master_step.proofs.StepLaws.{step_told}
 use Rattle.master_step.proofs.step.step_in.Goals as goal
 
-pub returns-in-9 : goal.returns-in-9
-returns-in-9 c = step_told c.args.here c.args.answer (c.step_of.ensures c.in-9.is)
+pub returns-in-Abort : goal.returns-in-Abort
+returns-in-Abort c =
+    let group = told group_number group_of (get_or c.args.block.now 3 0) c.in-Some.ensures in
+    step_told c.args.here c.args.answer (c.step_of.ensures (sym (number_told group) ∙ ap group_number c.in-Abort.is))
 
-pub returns-in-0 : goal.returns-in-0
-returns-in-0 c = step_told c.args.here c.args.answer (c.step_of-in-0.ensures c.in-0.is)
+pub returns-in-Begin : goal.returns-in-Begin
+returns-in-Begin c =
+    let group = told group_number group_of (get_or c.args.block.now 3 0) c.in-Some.ensures in
+    step_told c.args.here c.args.answer (c.step_of-in-Begin.ensures (sym (number_told group) ∙ ap group_number c.in-Begin.is))
 
-pub returns-in_default : goal.returns-in_default
-returns-in_default c = step_told c.args.here c.args.answer (c.step_of-in_default.ensures refl)
+pub returns-in_default-group : goal.returns-in_default-group
+returns-in_default-group c = step_told c.args.here c.args.answer (c.step_of-in_default-group.ensures (sym (number_told (told group_number group_of (get_or c.args.block.now 3 0) c.in-Some.ensures))))

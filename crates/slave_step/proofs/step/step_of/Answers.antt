@@ -17,7 +17,7 @@ returns-then-size-gt65535 c = unlent c.args.size c.args.answer c.args.block.now 
 pub returns-then-not-is_call-is_plain : goal.returns-then-not-is_call-is_plain
 unfolding held_in fields_of
 returns-then-not-is_call-is_plain c =
-    let ready = rw (sym c.requires) at c.is_ready.ensures in
+    let ready = rw (sym c.requires) at c.is_ready.ensures c.args.entry c.kind_of.ensures in
     unheld c.args.size c.args.answer c.args.block.now _ _ (fields_of c.args.block.now) c.args.entry c.is_call.ensures c.is_plain.ensures ready c.if-not-is_call-is_plain.true (record { block = refl; ended = c.refused-then-not-is_call-is_plain.ensures })
 
 pub step_at-requires : goal.step_at-requires
@@ -25,14 +25,14 @@ unfolding fields_of slave_of
 step_at-requires c =
     let b = c.args.block.now in
     let bytes : (i : ℕ) → get_or b i 0 < 256 = λ i. search rules in
-    let ready = rw (sym c.requires) at c.is_ready.ensures in
+    let ready = rw (sym c.requires) at c.is_ready.ensures c.args.entry c.kind_of.ensures in
     let fit = c.if-not-is_call-is_plain.false in
     record {
-      held = rw (sym c.requires) (held c.args.entry c.args.size (fields_of b) c.is_call.ensures c.is_plain.ensures ready fit (bytes 7) (bytes_back b (search rules) (all_bytes b bytes)));
-      seen = rw (sym c.requires) (seen c.args.entry c.args.size (fields_of b) c.is_call.ensures c.is_plain.ensures ready fit);
+      held = rw (c.kind_of.ensures, sym c.requires) (held c.args.entry c.args.size (fields_of b) c.is_call.ensures c.is_plain.ensures ready fit (bytes 7) (bytes_back b (search rules) (all_bytes b bytes)));
+      seen = rw (c.kind_of.ensures, sym c.requires) (seen c.args.entry c.args.size (fields_of b) c.is_call.ensures c.is_plain.ensures ready fit);
       kind = refl;
       lent = refl;
-      counted = sym c.count_at.ensures;
+      counted = sym c.long.ensures;
     }
 
 pub returns : goal.returns
@@ -40,5 +40,5 @@ unfolding held_in fields_of
 returns c =
     let b = c.args.block.now in
     let bytes : (i : ℕ) → get_or b i 0 < 256 = λ i. search rules in
-    let ready = rw (sym c.requires) at c.is_ready.ensures in
-    stepped c.args.size c.args.answer b _ _ (fields_of b) c.args.entry c.is_call.ensures c.is_plain.ensures ready c.if-not-is_call-is_plain.false (bytes 7) c.if-size-gt65535.false (rw (sym c.requires) at c.step_at.ensures)
+    let ready = rw (sym c.requires) at c.is_ready.ensures c.args.entry c.kind_of.ensures in
+    stepped c.args.size c.args.answer b _ _ (fields_of b) c.args.entry c.is_call.ensures c.is_plain.ensures ready c.if-not-is_call-is_plain.false (bytes 7) c.if-size-gt65535.false (rw (c.kind_of.ensures, sym c.requires) at c.step_at.ensures)
