@@ -1,3 +1,4 @@
+pub mod InitLaws
 pub mod KeptLaws
 pub mod TransferLaws
 pub mod ResponseLaws

@@ -3,7 +3,6 @@
 use mathlib.Core.Path.{◌≡◌, refl}
 use mathlib.Core.Bool.{Bool, true, false, cond, not}
 use mathlib.Core.List.{List}
-use mathlib.Core.Option.{none, some}
 use Prim.Native.Nat.{ℕ}
 use Rattle.std.specs.Prelude.{Some, None, Option}
 use Rattle.access.specs.declared.ending.Error.TheVariants.{InvalidState}
@@ -16,6 +15,7 @@ use Rattle.slave.specs.Steps.{fits_lent, need_of}
 use Rattle.slave_step.specs.Held.{held_in, fitting_in, Refuses, StepsFrom}
 use Rattle.call.specs.CallOn.{state_in, on_block}
 use Rattle.call.specs.OnBlock.{OnBlock, Does, owed_by, moved_by, step_on, refused}
+use Rattle.call.proofs.CallLaws.{held_if}
 use Rattle.calls.specs.Response.{fitting, response_call}
 
 module _ (size : ℕ) (x : Kind) (b : List ℕ) (a : ℕ) (after : List ℕ) (n : Need) where
@@ -48,8 +48,4 @@ module _ (size : ℕ) (x : Kind) (b : List ℕ) (a : ℕ) (after : List ℕ) (n 
 
 pub same_fitting : (size : ℕ) (f : Option State) → state_in (fitting_in size f) ≡ fitting size f
 same_fitting size None = refl
-same_fitting size (Some s) = go (fits_lent s size)
-  where
-    go : (t : Bool) → state_in (cond t (Some s) None) ≡ cond t (some s) none
-    go true = refl
-    go false = refl
+same_fitting size (Some s) = held_if (fits_lent s size) s

@@ -5,7 +5,6 @@ ghost use Rattle.calls.specs.Laws.{init_laws};
 
 use access::{Error, Need};
 use asked::Asked;
-use block::bytes32;
 use call::by_state::{self, States};
 use call::{Call, OnBlock};
 use images::init_image;
@@ -39,14 +38,15 @@ impl OnBlock for Init {
 
 impl States for Init {
     fn first(&self, wanted: Wanted) -> Result<State, Error> {
-        let timing = timing::timing::timing(
-            wanted.input,
-            wanted.frequency,
-            wanted.duty,
-            wanted.chip,
-        )?;
+        let Wanted {
+            input,
+            frequency,
+            duty,
+            chip,
+        } = wanted;
+        let timing = timing::timing::timing(input, frequency, duty, chip)?;
         Ok(State {
-            chip: wanted.chip,
+            chip,
             timing,
             stage: Stage::DisableRead,
             saved: 0,
@@ -62,11 +62,11 @@ impl States for Init {
     }
 
     fn found(&self, block: &[u8; 32]) -> Option<State> {
-        fitting(init_image::init_in(bytes32::fields(block)))
+        fitting(init_image::init_in(block.into()))
     }
 
     fn put(&self, state: State, block: &mut [u8; 32]) {
-        bytes32::put(block, init_image::init_fields(state));
+        *block = init_image::init_fields(state).into();
     }
 }
 
@@ -97,10 +97,5 @@ fn in_range(timing: Timing) -> bool
 fn fitting(found: Option<State>) -> Option<State>
     ensures { result ≡ fitting found }
 {
-    let state = found?;
-    if in_range(state.timing) {
-        Some(state)
-    } else {
-        None
-    }
+    found.filter(|state| in_range(state.timing))
 }

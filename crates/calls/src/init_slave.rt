@@ -5,7 +5,6 @@ ghost use Rattle.calls.specs.Laws.{init_slave_laws};
 
 use access::{Error, Need};
 use asked::Asked;
-use block::bytes32;
 use call::by_state::{self, States};
 use call::{Call, OnBlock};
 use images::init_slave_image;
@@ -47,11 +46,11 @@ impl States for InitSlave {
     }
 
     fn found(&self, block: &[u8; 32]) -> Option<InitState> {
-        fitting(init_slave_image::init_slave_in(bytes32::fields(block)))
+        fitting(init_slave_image::init_slave_in(block.into()))
     }
 
     fn put(&self, state: InitState, block: &mut [u8; 32]) {
-        bytes32::put(block, init_slave_image::init_slave_fields(state));
+        *block = init_slave_image::init_slave_fields(state).into();
     }
 }
 

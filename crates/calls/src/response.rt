@@ -6,11 +6,11 @@ ghost use Rattle.calls.specs.Response.{response_call};
 
 use access::Error;
 use asked::Asked;
-use block::at;
+use block::{Block, at};
 use call::{Call, OnBlock, Reads};
-use images::numbers;
+use images::numbers::Entry;
 use slave::{Kind, State};
-use slave_step::{begin, keep, put, step};
+use slave_step::{begin, keep, step};
 
 // A slave call with so many bytes lent.
 #[derive(Clone, Copy)]
@@ -20,7 +20,7 @@ pub struct Response {
 }
 
 impl OnBlock for Response {
-    // C's number of the chip.
+    // C's number of the chip. (No `Chip`: a begin takes every number, so a type would ask more of callers.)
     type Args = u8;
 
     type State = State;
@@ -36,9 +36,9 @@ fn entry(kind: Kind) -> u8
     ensures { result ≡ kind_entry kind }
 {
     match kind {
-        Kind::Listen => numbers::LISTEN,
-        Kind::RespondToWrite => numbers::RESPOND_TO_WRITE,
-        Kind::RespondToRead => numbers::RESPOND_TO_READ,
+        Kind::Listen => Entry::Listen as u8,
+        Kind::RespondToWrite => Entry::RespondToWrite as u8,
+        Kind::RespondToRead => Entry::RespondToRead as u8,
     }
 }
 
@@ -60,7 +60,7 @@ impl Call for Response {
 
 impl Reads for Response {
     fn kept_at(&self, block: &[u8; 32]) -> Option<u32> {
-        let count = put::count_at(block);
+        let count = block.long(at::COUNT);
         if keep::is_kept(block[at::GROUP], self.size, count) {
             Some(count)
         } else {

@@ -10,7 +10,7 @@ ghost use Rattle.calls.specs.Laws.{transaction_laws, write_read_laws, write_laws
 
 use access::Error;
 use asked::Asked;
-use block::{at, bytes32};
+use block::{Block, at};
 use call::{Call, OnBlock, Reads};
 use master::{FrameOptions, Kind, State};
 use master_call::{begin, frame, transaction, write_read};
@@ -34,9 +34,10 @@ pub struct Framed {
 fn called(partner: Partner, kind: Kind) -> master::Call
     ensures { result ≡ called partner kind }
 {
+    let Partner { chip, address } = partner;
     master::Call {
-        chip: partner.chip,
-        address: partner.address,
+        chip,
+        address,
         kind,
     }
 }
@@ -46,7 +47,7 @@ fn kept_at(block: &[u8; 32]) -> Option<u32>
     ensures { (list : List ℕ) (written room entry : ℕ) (s : State) → fitting_in list written room (held_in entry block.now) ≡ Some s → result ≡ kept_place (need_of s) }
 {
     if keep::is_kept(block[at::GROUP], block[at::PHASE]) {
-        Some(bytes32::word_at(block, at::PLACE) as u32)
+        Some(block.word(at::PLACE) as u32)
     } else {
         None
     }
@@ -72,11 +73,13 @@ impl<'a> OnBlock for Transaction<'a> {
 }
 
 impl<'a> Call for Transaction<'a> {
+    #[tactic(auto, using(crate::proofs::TransferLaws::transaction_begins))]
     fn begin(&self, partner: Partner, block: &mut [u8; 32]) -> Result<Asked, Error> {
         let call = called(partner, Kind::Transaction);
         begin::begin(block, call, self.list, self.written, self.room)
     }
 
+    #[tactic(auto, using(crate::proofs::TransferLaws::transaction_steps, block::proofs::Codec::all_bytes))]
     fn step(&self, block: &mut [u8; 32], answer: u16) -> Asked {
         transaction::transaction_step(block, self.list, self.written, self.room, answer)
     }
@@ -109,12 +112,14 @@ impl OnBlock for WriteRead {
 }
 
 impl Call for WriteRead {
+    #[tactic(auto, using(crate::proofs::TransferLaws::write_read_begins))]
     fn begin(&self, partner: Partner, block: &mut [u8; 32]) -> Result<Asked, Error> {
         let none = [0u8; 0];
         let call = called(partner, Kind::WriteRead);
         begin::begin(block, call, &none, self.written, self.room)
     }
 
+    #[tactic(auto, using(crate::proofs::TransferLaws::write_read_steps, block::proofs::Codec::all_bytes))]
     fn step(&self, block: &mut [u8; 32], answer: u16) -> Asked {
         write_read::write_read_step(block, self.written, self.room, answer)
     }
@@ -146,12 +151,14 @@ impl OnBlock for Write {
 }
 
 impl Call for Write {
+    #[tactic(auto, using(crate::proofs::TransferLaws::write_begins))]
     fn begin(&self, framed: Framed, block: &mut [u8; 32]) -> Result<Asked, Error> {
         let none = [0u8; 0];
         let call = called(framed.partner, Kind::Write(framed.options));
         begin::begin(block, call, &none, self.written, 0)
     }
 
+    #[tactic(auto, using(crate::proofs::TransferLaws::write_steps, block::proofs::Codec::all_bytes))]
     fn step(&self, block: &mut [u8; 32], answer: u16) -> Asked {
         frame::write_step(block, self.written, answer)
     }
@@ -175,12 +182,14 @@ impl OnBlock for Read {
 }
 
 impl Call for Read {
+    #[tactic(auto, using(crate::proofs::TransferLaws::read_begins))]
     fn begin(&self, framed: Framed, block: &mut [u8; 32]) -> Result<Asked, Error> {
         let none = [0u8; 0];
         let call = called(framed.partner, Kind::Read(framed.options));
         begin::begin(block, call, &none, 0, self.room)
     }
 
+    #[tactic(auto, using(crate::proofs::TransferLaws::read_steps, block::proofs::Codec::all_bytes))]
     fn step(&self, block: &mut [u8; 32], answer: u16) -> Asked {
         frame::read_step(block, self.room, answer)
     }

@@ -1,22 +1,18 @@
 -- The tests of critical.rt find the sections that the definition has.
 -- Assumes nothing.
-use Prim.Native.Nat.{ℕ, ◌<◌}
-use mathlib.Core.Path.{◌≡◌, refl, sym, ◌∙◌}
-use mathlib.Core.Bool.{Bool, true, false, cond, ◌&&◌, ◌||◌}
+use Prim.Native.Nat.{ℕ}
+use mathlib.Core.Path.{◌≡◌, refl, sym, ap}
+use mathlib.Core.Bool.{Bool, true, false, cond, ◌&&◌}
 use mathlib.Core.List.{List}
-use lib.Dec.{eqb, ltb}
+use lib.Dec.{eqb}
 use lib.ListN.{length, get_or}
-use borrow.Author.Tests.{eqb-true, eq-eqb, ne_eqb}
-use Rattle.std.specs.Prelude.{Some, None}
-use Rattle.access.proofs.Choice.{chosen}
+use borrow.Author.Tests.{eq-eqb, ne_eqb}
+use Rattle.std.specs.Prelude.{Some, None, is_some}
 use Rattle.block.specs.Bytes32.{block_size, fields_of}
 use Rattle.block.specs.Fields.{same_fields}
-use Rattle.master.specs.declared.stage.Stage.{Stage}
 use Rattle.master.specs.declared.state.State.{State}
-use Rattle.stage_numbers.specs.MasterStage.{address_stage_number, address_stage_of, read_stage_number, read_stage_of, stop_for_number, stop_for_of, stage_of, is_stage}
-use Rattle.access.proofs.Bytes.{bytes}
-use Rattle.access.proofs.Compared.{itself, turned, joined, with_true}
-use Rattle.stage_numbers.proofs.MasterStageRanges.{half_range}
+use Rattle.stage_numbers.specs.MasterStage.{address_stage_number, address_stage_of, read_stage_number, read_stage_of, stop_for_number, stop_for_of, half_number, half_of, stage_of, is_stage}
+use Rattle.access.proofs.Compared.{itself, turned, joined}
 use Rattle.access.specs.Endings.{is_ending, is_done}
 use Rattle.images.specs.Numbers.{flag_at}
 use Rattle.images.specs.EndImage.{ending_at}
@@ -27,18 +23,9 @@ use Rattle.ch32_i2c.specs.Critical.{in_read_section, in_address_section, in_stop
 
 -- ---- the three groups that have sections
 
-pub read_section : (p : ℕ) → p < 256 → (ltb 0 p && ltb p 5) || (ltb 7 p && ltb p 12) ≡ eqb (read_stage_number (read_stage_of p)) p && in_read_section (read_stage_of p)
-read_section = bytes (λ p. eqb (read_stage_number (read_stage_of p)) p && in_read_section (read_stage_of p)) (λ p. (ltb 0 p && ltb p 5) || (ltb 7 p && ltb p 12)) refl
-
-address_phase : (p : ℕ) → p < 256 → eqb p 3 ≡ eqb (address_stage_number (address_stage_of p)) p && in_address_section (address_stage_of p)
-address_phase = bytes (λ p. eqb (address_stage_number (address_stage_of p)) p && in_address_section (address_stage_of p)) (λ p. eqb p 3) refl
-
-stop_what : (w : ℕ) → w < 256 → ltb 0 w && ltb w 3 ≡ eqb (stop_for_number (stop_for_of w)) w && in_stop_section (stop_for_of w)
-stop_what = bytes (λ w. eqb (stop_for_number (stop_for_of w)) w && in_stop_section (stop_for_of w)) (λ w. ltb 0 w && ltb w 3) refl
-
-pub in_address : (w p : ℕ) → p < 256 → eqb w 0 && eqb p 3 ≡ is_stage 4 w p && in_section (stage_of 4 w p)
+pub in_address : (w p : ℕ) → eqb w 0 && (eqb (address_stage_number (address_stage_of p)) p && in_address_section (address_stage_of p)) ≡ is_stage 4 w p && in_section (stage_of 4 w p)
 unfolding is_stage
-in_address w p h = rw (address_phase p h, turned 0 w) (sym (joined (eqb w 0) (eqb (address_stage_number (address_stage_of p)) p) (in_address_section (address_stage_of p))))
+in_address w p = rw (turned 0 w) (sym (joined (eqb w 0) (eqb (address_stage_number (address_stage_of p)) p) (in_address_section (address_stage_of p))))
 
 pub in_read : (w p : ℕ) → eqb w 0 && (eqb (read_stage_number (read_stage_of p)) p && in_read_section (read_stage_of p)) ≡ is_stage 7 w p && in_section (stage_of 7 w p)
 unfolding is_stage
@@ -51,31 +38,16 @@ swapped true false true = refl
 swapped true false false = refl
 swapped false i h = refl
 
-pub in_stop : (w p : ℕ) → w < 256 → p < 256 → (ltb 0 w && ltb w 3) && ltb p 2 ≡ is_stage 8 w p && in_section (stage_of 8 w p)
+pub in_stop : (w p : ℕ) → (eqb (stop_for_number (stop_for_of w)) w && in_stop_section (stop_for_of w)) && eqb (half_number (half_of p)) p ≡ is_stage 8 w p && in_section (stage_of 8 w p)
 unfolding is_stage
-in_stop w p k h = rw (stop_what w k, half_range p h) (swapped (eqb (stop_for_number (stop_for_of w)) w) (in_stop_section (stop_for_of w)) (ltb p 2))
+in_stop w p = swapped (eqb (stop_for_number (stop_for_of w)) w) (in_stop_section (stop_for_of w)) (eqb (half_number (half_of p)) p)
 
--- ---- all others
-
-none : (b : Bool) (t : Bool) → t ≡ false → false ≡ b && t
-none true t e = rw e
-none false t e = refl
-
-outside : (g w p : ℕ) → (g ≡ 4 → ⊥) → (g ≡ 7 → ⊥) → (g ≡ 8 → ⊥) → in_section (stage_of g w p) ≡ false
-outside g w p n4 n7 n8 =
-    chosen (λ (st : Stage). in_section st ≡ false) (eqb g 0) (λ _. refl)
-    (λ _. chosen (λ (st : Stage). in_section st ≡ false) (eqb g 1) (λ _. refl)
-    (λ _. chosen (λ (st : Stage). in_section st ≡ false) (eqb g 2) (λ _. refl)
-    (λ _. chosen (λ (st : Stage). in_section st ≡ false) (eqb g 3) (λ _. refl)
-    (λ _. chosen (λ (st : Stage). in_section st ≡ false) (eqb g 4) (λ k. absurd (n4 (eqb-true g 4 k)))
-    (λ _. chosen (λ (st : Stage). in_section st ≡ false) (eqb g 5) (λ _. refl)
-    (λ _. chosen (λ (st : Stage). in_section st ≡ false) (eqb g 6) (λ _. refl)
-    (λ _. chosen (λ (st : Stage). in_section st ≡ false) (eqb g 7) (λ k. absurd (n7 (eqb-true g 7 k)))
-    (λ _. chosen (λ (st : Stage). in_section st ≡ false) (eqb g 8) (λ k. absurd (n8 (eqb-true g 8 k)))
-    (λ _. chosen (λ (st : Stage). in_section st ≡ false) (eqb g 9) (λ _. refl) (λ _. refl))))))))))
-
-pub in_none : (g w p : ℕ) → (g ≡ 4 → ⊥) → (g ≡ 7 → ⊥) → (g ≡ 8 → ⊥) → false ≡ is_stage g w p && in_section (stage_of g w p)
-in_none g w p n4 n7 n8 = none (is_stage g w p) (in_section (stage_of g w p)) (outside g w p n4 n7 n8)
+pub half_found : (p : ℕ) → is_some (cond (eqb (half_number (half_of p)) p) (Some (half_of p)) None) ≡ eqb (half_number (half_of p)) p
+half_found p = go (eqb (half_number (half_of p)) p)
+  where
+    go : (b : Bool) → is_some (cond b (Some (half_of p)) None) ≡ b
+    go true = refl
+    go false = refl
 
 -- ---- a block
 
@@ -109,17 +81,6 @@ unfolding critical
 no_block b e = rw (ne_eqb (length b) 32 e)
 
 -- by direction and stage, and then by the other numbers
-module _ (b : List ℕ) (size : length b ≡ block_size) (reading section : Bool) (er : reading ≡ flag_at 1 (get_or b 6 0))
-    (es : section ≡ is_stage (get_or b 3 0) (get_or b 4 0) (get_or b 5 0) && in_section (stage_of (get_or b 3 0) (get_or b 4 0) (get_or b 5 0))) where
-  shown : (t : Bool) → is_open_call b && (reading && section) ≡ t → is_critical_in (master_in (fields_of b)) ≡ t
-  shown t e = sym (block_critical b) ∙ rw (sym er, sym es) e
-
-  told : (t : Bool) → is_open_call b && (reading && section) ≡ t → cond t 1 0 ≡ critical b
-  unfolding critical
-  told t e = rw (eq-eqb (length b) 32 size, shown t e)
-
-  pub told_inside : (t : Bool) → reading && section ≡ true → is_open_call b ≡ t → cond t 1 0 ≡ critical b
-  told_inside t inside call = told t (rw (inside, call) (with_true t))
-
-  pub told_outside : reading && section ≡ false → 0 ≡ critical b
-  told_outside out = told false (sym (none (is_open_call b) (reading && section) out))
+pub critical_told : (b : List ℕ) → length b ≡ block_size → critical b ≡ cond (is_open_call b && (flag_at 1 (get_or b 6 0) && (is_stage (get_or b 3 0) (get_or b 4 0) (get_or b 5 0) && in_section (stage_of (get_or b 3 0) (get_or b 4 0) (get_or b 5 0))))) 1 0
+unfolding critical
+critical_told b size = rw (eq-eqb (length b) 32 size) (ap (λ (t : Bool). cond t 1 0) (sym (block_critical b)))

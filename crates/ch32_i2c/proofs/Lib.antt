@@ -1,4 +1,5 @@
 pub mod CriticalLaws
+pub mod LeftLaws
 pub mod TransferLeaves
 pub mod InitLeaves
 pub mod ResponseLeaves

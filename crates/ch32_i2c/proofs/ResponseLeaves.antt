@@ -1,6 +1,6 @@
 -- What begin and step of a slave call leave, in the words of the edge that all calls share.
 -- Assumes nothing.
-use mathlib.Core.Path.{◌≡◌, refl, ap, subst, ◌∙◌}
+use mathlib.Core.Path.{◌≡◌, refl}
 use mathlib.Core.Bool.{Bool, true, false, cond}
 use mathlib.Core.List.{List, []}
 use mathlib.Core.Option as maybe
@@ -15,30 +15,21 @@ use Rattle.images.specs.SlaveImage.{kind_entry}
 use Rattle.slave.specs.declared.state.Kind.{Kind}
 use Rattle.slave.specs.Calls.{size_refusal}
 use Rattle.slave_step.specs.Held.{held_in, fitting_in}
-use Rattle.call.specs.OnBlock.{After, standing, begin_by}
+use Rattle.call.specs.OnBlock.{standing, begin_by}
 use Rattle.call.specs.CallOn.{state_in, begun_by, first_unless}
 use Rattle.call.specs.Edge.{in_block, begin_at, known}
-use Rattle.call.specs.Left.{begin_left, step_left, Leaves, LeavesBlock}
+use Rattle.call.specs.Left.{step_left}
 use Rattle.call.proofs.CallLaws.{begin_as, step_as}
 use Rattle.calls.specs.Response.{slave_held, fitting, response_on, response_begin, response_call, first_state}
 use Rattle.calls.proofs.ResponseLaws.{same_fitting}
 
-response_begin_at : (b : List ℕ) (size chip : ℕ) (x : Kind) → begin_at (response_call size x) (known (ltb 3 chip) chip) b ≡ response_begin size chip x b
+pub response_begin_at : (b : List ℕ) (size chip : ℕ) (x : Kind) → begin_at (response_call size x) (known (ltb 3 chip) chip) b ≡ response_begin size chip x b
 response_begin_at b size chip x =
     begin_as (response_call size x) (ltb 3 chip) chip b (size_refusal size) (standing (response_on size (kind_entry x)) (first_state size (chip_of chip) x)) (go (size_refusal size))
   where
     go : (o : maybe.Option Error) → begun_by (response_call size x) (first_unless o (first_state size (chip_of chip) x)) b ≡ begin_by o b (standing (response_on size (kind_entry x)) (first_state size (chip_of chip) x))
     go maybe.none = refl
     go (maybe.some e) = refl
-
-module _ {n : ℕ} {after : List ℕ} (bytes b : List ℕ) (size chip : ℕ) (x : Kind) (o : Option ℕ) (q : o ≡ known (ltb 3 chip) chip) (l : LeavesBlock (begin_left bytes (begin_at (response_call size x) o b) []) n after) where
-  pub response_begun : (r : List ℕ) → LeavesBlock (begin_left bytes (response_begin size chip x b) r) n after
-  response_begun r =
-      let k = subst (λ (y : After). LeavesBlock (begin_left bytes y []) n after) (ap (λ (u : Option ℕ). begin_at (response_call size x) u b) q ∙ response_begin_at b size chip x) l in
-      record { number = k.number; words = k.words; block = k.block }
-
-  pub response_begun_reading : (r : List ℕ) → Leaves (begin_left bytes (response_begin size chip x b) r) n after r
-  response_begun_reading r = let k = response_begun r in record { number = k.number; words = k.words; block = k.block; read = refl }
 
 same_held : (size : ℕ) (x : Kind) (b : List ℕ) → (in_block (response_call size x)).held b ≡ fitting size (slave_held (kind_entry x) b)
 unfolding slave_held held_in

@@ -5,7 +5,7 @@ use mathlib.Core.Path.{◌≡◌, refl, ap, sym, subst, ◌∙◌}
 use mathlib.Core.Bool.{Bool, true, false, cond, not, ◌&&◌}
 use mathlib.Core.List.{List}
 use mathlib.Core.Option.{Option, some}
-use Prim.Native.Nat.{ℕ, suc, pred, ◌<◌, ◌≤◌, ◌+◌, ◌-◌, ◌*◌, ◌/◌, ◌%◌, min}
+use Prim.Native.Nat.{ℕ, suc, pred, ◌<◌, ◌+◌, ◌-◌, ◌*◌, ◌/◌, ◌%◌, min}
 use native.Mathlib.Omega.{arith}
 use lib.Dec.{eqb, leb, ltb}
 use lib.ListN.{length}
@@ -35,6 +35,7 @@ use Rattle.slave.specs.declared.command.SlaveCommand.{SlaveCommand}
 use Rattle.slave.specs.declared.state.Kind.TheVariants.{Listen, RespondToRead}
 use Rattle.slave.specs.Rust as rust
 use Rattle.slave.specs.Ours as ours
+use Rattle.slave.proofs.FitsKept.{seven_below, kind_below}
 use Rattle.slave.specs.Numbers.{kind_number, address_number, command_number, status_number}
 use Rattle.slave.specs.Calls.{SlaveLent, both_left, ours_program, ours_slave}
 use Rattle.ch32_i2c.specs.Demands.{IsSecond, same, one_less, RepliesEnd, both_failed, both_done, InBits, Commanded, with_command, without_command, Replied, with_status, without_status}
@@ -105,15 +106,12 @@ replied_with n m (both_done sent second i) = with_status sent second i
 
 -- ---- a listen
 
-seven_bits : (w : ℕ) → field_of ADD7_1 w < 128
-seven_bits w = field_bound ADD7_1 w
-
 ten_bits : (w : ℕ) → rust.ten_bits w < 1024
 ten_bits w = go (has_bit ADD0 w)
   where
     go : (b : Bool) → field_of ADD9_8 w * 256 + field_of ADD7_1 w * 2 + cond b 1 0 < 1024
-    go true = let h : field_of ADD9_8 w < 4 = field_bound ADD9_8 w in omega (arith, seven_bits w)
-    go false = let h : field_of ADD9_8 w < 4 = field_bound ADD9_8 w in omega (arith, seven_bits w)
+    go true = let h : field_of ADD9_8 w < 4 = field_bound ADD9_8 w in omega (arith, seven_below w)
+    go false = let h : field_of ADD9_8 w < 4 = field_bound ADD9_8 w in omega (arith, seven_below w)
 
 module _ (chip : Chip) (turns : ℕ) where
   abbrev Listened : Ending → Ending → Type 0
@@ -137,7 +135,7 @@ module _ (chip : Chip) (turns : ℕ) where
       (accesses (λ star2. either Listened (has_bit GENCALL star2) (finishes (command star2 (SevenBit 0) (omega arith)))
       (either Listened (has_bit DUALF star2) (accesses (λ oaddr2. finishes (command star2 (SevenBit (field_of ADD2 oaddr2)) (field_bound ADD2 oaddr2))))
       (accesses (λ oaddr1. either Listened (has_bit ADDMODE oaddr1) (finishes (command star2 (TenBit (rust.ten_bits oaddr1)) (ten_bits oaddr1)))
-      (finishes (command star2 (SevenBit (field_of ADD7_1 oaddr1)) (seven_bits oaddr1))))))))
+      (finishes (command star2 (SevenBit (field_of ADD7_1 oaddr1)) (seven_below oaddr1))))))))
       (checks Listened without_command chip turns star1 (rest tt)))) turns tt)))))
 
 pub listen_ends : (chip : Chip) (l : SlaveLent) (turns : ℕ) (answers : List ℕ) (e : Ending) → (ours_slave turns chip Listen l answers).end ≡ some e → Commanded e
@@ -156,11 +154,6 @@ reply_end chip x turns answers e q = go (reply_ends chip x x turns answers) q
 address_below : (a : SlaveAddress) → InBits a → address_number a < 2048
 address_below (SevenBit a) h = omega arith
 address_below (TenBit a) h = omega arith
-
-kind_below : (k : SlaveCommandKind) → kind_number k ≤ 2
-kind_below GeneralCall = omega arith
-kind_below Read = omega arith
-kind_below Write = omega arith
 
 same_kind : (k l : SlaveCommandKind) → kind_number k ≡ kind_number l → k ≡ l
 same_kind GeneralCall GeneralCall e = refl

@@ -1,6 +1,6 @@
 -- What begin and step of a transfer leave, in the words of the edge that all calls share.
 -- Assumes nothing.
-use mathlib.Core.Path.{◌≡◌, refl, ap, subst, ◌∙◌}
+use mathlib.Core.Path.{◌≡◌, refl, ap}
 use mathlib.Core.Bool.{Bool, true, false, cond, ◌||◌}
 use mathlib.Core.List.{List, []}
 use mathlib.Core.Option as maybe
@@ -14,15 +14,14 @@ use Rattle.images.specs.Numbers.{transaction_entry, write_read_entry, write_entr
 use Rattle.images.specs.MasterImage.{kind_entry}
 use Rattle.master.specs.declared.call.Call.{Call}
 use Rattle.master.specs.declared.call.Kind.TheVariants as kind
-use Rattle.master.specs.Calls.{lent_with, refusal_by}
+use Rattle.master.specs.Calls.{refusal_by}
 use Rattle.master_call.specs.CallStep.{held_in, fitting_in}
 use Rattle.call.specs.OnBlock.{After, standing, begin_by}
 use Rattle.call.specs.CallOn.{state_in, begun_by, first_unless}
 use Rattle.call.specs.Edge.{in_block, begin_at, known}
-use Rattle.call.specs.Left.{begin_left, step_left, Leaves, LeavesBlock}
+use Rattle.call.specs.Left.{begin_left, step_left}
 use Rattle.call.proofs.CallLaws.{begin_as, step_as}
 use Rattle.calls.specs.declared.transfer.Partner.{Partner}
-use Rattle.calls.specs.declared.transfer.Framed.{Framed}
 use Rattle.calls.specs.Transfer.{master_held, fitting, first_state, transfer_on, transfer_begin, transfer_call, called, framed, transaction_call, write_read_call, write_call, read_call}
 use Rattle.calls.proofs.TransferLaws.{same_fitting}
 use Rattle.ch32_i2c.specs.Transfer as entry
@@ -50,36 +49,27 @@ module _ {Args : Type 0} (call_of : Args → Call) (list : List ℕ) (written ro
   step_is : (bytes b r : List ℕ) (a : ℕ) → step_left (in_block (transfer_call list written room n call_of)) bytes b r a ≡ step_left (transfer_on list written room n) bytes b r a
   step_is bytes b r a = step_as (transfer_call list written room n call_of) (λ b. fitting list written room (master_held n b)) bytes b r a (held_is b)
 
-module _ {Args : Type 0} (call_of : Args → Call) (list written : List ℕ) (room n : ℕ) (unknown : Bool) (x : Args) (o : Option Args) (q : o ≡ known unknown x) (b : List ℕ) (k : ℕ) (after : List ℕ)
-    (l : LeavesBlock (begin_left written (begin_at (transfer_call list (length written) room n call_of) o b) []) k after) where
-  begun : (r : List ℕ) → Leaves (master_begin unknown (call_of x) b (lent_with list written room) r) k after r
-  unfolding master_begin
-  begun r =
-      let h = subst (λ (y : After). LeavesBlock (begin_left written y []) k after) (ap (λ (u : Option Args). begin_at (transfer_call list (length written) room n call_of) u b) q ∙ begin_at_is call_of list (length written) room n unknown x b) l in
-      record { number = h.number; words = h.words; block = h.block; read = refl }
-
 -- ---- begin, entry by entry
 
-pub transaction_begun : (chip address : ℕ) (list written r b : List ℕ) (o : Option Partner) (k : ℕ) (after : List ℕ) → o ≡ known (ltb 3 chip) (partner_of chip address)
-    → LeavesBlock (begin_left written (begin_at (transaction_call list (length written) (length r)) o b) []) k after → Leaves (entry.transaction_begin b chip address list written r) k after r
-transaction_begun chip address list written r b o k after q l =
-    begun (λ p. called p kind.Transaction) list written (length r) transaction_entry (ltb 3 chip) (partner_of chip address) o q b k after l r
+pub transaction_begun : (chip address : ℕ) (list written r b : List ℕ)
+    → begin_left written (begin_at (transaction_call list (length written) (length r)) (known (ltb 3 chip) (partner_of chip address)) b) r ≡ entry.transaction_begin b chip address list written r
+unfolding master_begin
+transaction_begun chip address list written r b =
+    ap (λ (x : After). begin_left written x r) (begin_at_is (λ p. called p kind.Transaction) list (length written) (length r) transaction_entry (ltb 3 chip) (partner_of chip address) b)
 
-pub write_read_begun : (chip address : ℕ) (written r b : List ℕ) (o : Option Partner) (k : ℕ) (after : List ℕ) → o ≡ known (ltb 3 chip) (partner_of chip address)
-    → LeavesBlock (begin_left written (begin_at (write_read_call (length written) (length r)) o b) []) k after → Leaves (entry.write_read_begin b chip address written r) k after r
-write_read_begun chip address written r b o k after q l =
-    begun (λ p. called p kind.WriteRead) [] written (length r) write_read_entry (ltb 3 chip) (partner_of chip address) o q b k after l r
+pub write_read_begun : (chip address : ℕ) (written r b : List ℕ)
+    → begin_left written (begin_at (write_read_call (length written) (length r)) (known (ltb 3 chip) (partner_of chip address)) b) r ≡ entry.write_read_begin b chip address written r
+unfolding master_begin
+write_read_begun chip address written r b =
+    ap (λ (x : After). begin_left written x r) (begin_at_is (λ p. called p kind.WriteRead) [] (length written) (length r) write_read_entry (ltb 3 chip) (partner_of chip address) b)
 
-pub write_begun : (chip address option : ℕ) (written b : List ℕ) (o : Option Framed) (k : ℕ) (after : List ℕ) → o ≡ known (ltb 3 chip || ltb 5 option) (framed_of chip address option)
-    → LeavesBlock (begin_left written (begin_at (write_call (length written)) o b) []) k after → LeavesBlock (entry.write_begin b chip address option written) k after
-write_begun chip address option written b o k after q l =
-    let h = begun (framed (λ o. kind.Write o)) [] written 0 write_entry (ltb 3 chip || ltb 5 option) (framed_of chip address option) o q b k after l [] in
-    record { number = h.number; words = h.words; block = h.block }
+pub write_begun : (chip address option : ℕ) (written b : List ℕ) → begin_left written (begin_at (write_call (length written)) (known (ltb 3 chip || ltb 5 option) (framed_of chip address option)) b) [] ≡ entry.write_begin b chip address option written
+unfolding master_begin
+write_begun chip address option written b = ap (λ (x : After). begin_left written x []) (begin_at_is (framed (λ o. kind.Write o)) [] (length written) 0 write_entry (ltb 3 chip || ltb 5 option) (framed_of chip address option) b)
 
-pub read_begun : (chip address option : ℕ) (r b : List ℕ) (o : Option Framed) (k : ℕ) (after : List ℕ) → o ≡ known (ltb 3 chip || ltb 5 option) (framed_of chip address option)
-    → LeavesBlock (begin_left [] (begin_at (read_call (length r)) o b) []) k after → Leaves (entry.read_begin b chip address option r) k after r
-read_begun chip address option r b o k after q l =
-    begun (framed (λ o. kind.Read o)) [] [] (length r) read_entry (ltb 3 chip || ltb 5 option) (framed_of chip address option) o q b k after l r
+pub read_begun : (chip address option : ℕ) (r b : List ℕ) → begin_left [] (begin_at (read_call (length r)) (known (ltb 3 chip || ltb 5 option) (framed_of chip address option)) b) r ≡ entry.read_begin b chip address option r
+unfolding master_begin
+read_begun chip address option r b = ap (λ (x : After). begin_left [] x r) (begin_at_is (framed (λ o. kind.Read o)) [] 0 (length r) read_entry (ltb 3 chip || ltb 5 option) (framed_of chip address option) b)
 
 -- ---- step, entry by entry
 

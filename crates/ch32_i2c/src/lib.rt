@@ -5,6 +5,7 @@
 pub mod critical;
 pub mod init;
 pub mod init_slave;
+mod numbers;
 pub mod response;
 pub mod transfer;
 pub mod window;

@@ -12,9 +12,10 @@ use slave::Kind;
 fn known_chip(chip: u8) -> Option<u8>
     ensures { result ≡ known (ltb 3 chip) chip }
 {
-    if 3 < chip { None } else { Some(chip) }
+    (chip <= 3).then_some(chip)
 }
 
+#[tactic(auto, using(crate::proofs::ResponseLeaves::response_begin_at))]
 pub fn ch32_i2c_listen_begin(block: &mut [u8], chip: u8) -> u64
     ensures { LeavesBlock (listen_begin block.old chip) result block.new }
 {
@@ -22,8 +23,7 @@ pub fn ch32_i2c_listen_begin(block: &mut [u8], chip: u8) -> u64
         kind: Kind::Listen,
         size: 0,
     };
-    let none = [0u8; 0];
-    edge::begin(&call, known_chip(chip), block, &none)
+    edge::begin(&call, known_chip(chip), block, &[])
 }
 
 #[tactic(auto, using(crate::proofs::ResponseLeaves::response_unread_at))]
@@ -34,10 +34,10 @@ pub fn ch32_i2c_listen_step(block: &mut [u8], answer: u16) -> u64
         kind: Kind::Listen,
         size: 0,
     };
-    let none = [0u8; 0];
-    edge::step(&call, block, &none, answer)
+    edge::step(&call, block, &[], answer)
 }
 
+#[tactic(auto, using(crate::proofs::ResponseLeaves::response_begin_at, crate::proofs::LeftLaws::nothing_read))]
 pub fn ch32_i2c_respond_to_write_begin(block: &mut [u8], chip: u8, buffer: &mut [u8]) -> u64
     ensures { Leaves (respond_to_write_begin block.old chip buffer.old) result block.new buffer.new }
 {
@@ -45,8 +45,7 @@ pub fn ch32_i2c_respond_to_write_begin(block: &mut [u8], chip: u8, buffer: &mut 
         kind: Kind::RespondToWrite,
         size: buffer.len(),
     };
-    let none = [0u8; 0];
-    edge::begin(&call, known_chip(chip), block, &none)
+    edge::begin(&call, known_chip(chip), block, &[])
 }
 
 #[tactic(auto, using(crate::proofs::ResponseLeaves::response_step_at))]
@@ -57,10 +56,10 @@ pub fn ch32_i2c_respond_to_write_step(block: &mut [u8], buffer: &mut [u8], answe
         kind: Kind::RespondToWrite,
         size: buffer.len(),
     };
-    let none = [0u8; 0];
-    edge::step_reading(&call, block, &none, buffer, answer)
+    edge::step_reading(&call, block, &[], buffer, answer)
 }
 
+#[tactic(auto, using(crate::proofs::ResponseLeaves::response_begin_at))]
 pub fn ch32_i2c_respond_to_read_begin(block: &mut [u8], chip: u8, reply: &[u8]) -> u64
     ensures { LeavesBlock (respond_to_read_begin block.old chip reply.now) result block.new }
 {

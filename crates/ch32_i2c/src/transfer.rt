@@ -4,39 +4,30 @@ ghost use Rattle.call.specs.Edge.{known};
 ghost use Rattle.call.specs.Left.{Leaves, LeavesBlock};
 ghost use Rattle.ch32_i2c.specs.Transfer.{partner_of, framed_of, transaction_begin, transaction_step, write_read_begin, write_read_step, write_begin, write_step, read_begin, read_step};
 
+use crate::numbers;
 use call::edge;
 use calls::transfer::{Framed, Partner, Read, Transaction, Write, WriteRead};
-use images::{master_image, numbers};
+use images::master_image;
 
 // The partner that C's numbers mean, unless the chip is none.
 fn partner(chip: u8, address: u8) -> Option<Partner>
     ensures { result ≡ known (ltb 3 chip) (partner_of chip address) }
 {
-    if 3 < chip {
-        return None;
-    }
-    Some(Partner {
-        chip: numbers::chip_of(chip),
-        address: address as u16,
-    })
+    let chip = numbers::chip(chip)?;
+    let address = address.into();
+    Some(Partner { chip, address })
 }
 
 // The same of a frame, unless its option is none.
 fn framed(chip: u8, address: u8, option: u8) -> Option<Framed>
     ensures { result ≡ known (ltb 3 chip || ltb 5 option) (framed_of chip address option) }
 {
-    if (3 < chip) | (5 < option) {
-        return None;
-    }
-    Some(Framed {
-        partner: Partner {
-            chip: numbers::chip_of(chip),
-            address: address as u16,
-        },
-        options: master_image::frame_options_of(option),
-    })
+    let partner = partner(chip, address)?;
+    let options = master_image::frame_options_of(option);
+    (option <= 5).then_some(Framed { partner, options })
 }
 
+#[tactic(auto, using(crate::proofs::TransferLeaves::transaction_begun, crate::proofs::LeftLaws::nothing_read))]
 pub fn ch32_i2c_transaction_begin(
     block: &mut [u8],
     chip: u8,
@@ -73,6 +64,7 @@ pub fn ch32_i2c_transaction_step(
     edge::step_reading(&call, block, written, read, answer)
 }
 
+#[tactic(auto, using(crate::proofs::TransferLeaves::write_read_begun, crate::proofs::LeftLaws::nothing_read))]
 pub fn ch32_i2c_write_read_begin(
     block: &mut [u8],
     chip: u8,
@@ -105,6 +97,7 @@ pub fn ch32_i2c_write_read_step(
     edge::step_reading(&call, block, written, read, answer)
 }
 
+#[tactic(auto, using(crate::proofs::TransferLeaves::write_begun))]
 pub fn ch32_i2c_write_begin(
     block: &mut [u8],
     chip: u8,
@@ -130,6 +123,7 @@ pub fn ch32_i2c_write_step(block: &mut [u8], written: &[u8], answer: u16) -> u64
     edge::step(&call, block, written, answer)
 }
 
+#[tactic(auto, using(crate::proofs::TransferLeaves::read_begun, crate::proofs::LeftLaws::nothing_read))]
 pub fn ch32_i2c_read_begin(
     block: &mut [u8],
     chip: u8,
@@ -140,8 +134,7 @@ pub fn ch32_i2c_read_begin(
     ensures { Leaves (read_begin block.old chip address option read.old) result block.new read.new }
 {
     let call = Read { room: read.len() };
-    let none = [0u8; 0];
-    edge::begin(&call, framed(chip, address, option), block, &none)
+    edge::begin(&call, framed(chip, address, option), block, &[])
 }
 
 #[tactic(auto, using(crate::proofs::TransferLeaves::read_stepped))]
@@ -149,6 +142,5 @@ pub fn ch32_i2c_read_step(block: &mut [u8], read: &mut [u8], answer: u16) -> u64
     ensures { Leaves (read_step block.old read.old answer) result block.new read.new }
 {
     let call = Read { room: read.len() };
-    let none = [0u8; 0];
-    edge::step_reading(&call, block, &none, read, answer)
+    edge::step_reading(&call, block, &[], read, answer)
 }

@@ -1,4 +1,4 @@
-// Begin and step of a transaction: what those of C give for the bytes of the operations.
+// Begin and step of a transaction: what those of C give for the bytes of the operations. (With C's parameters, so that they are read beside them.)
 ghost use Rattle.call.specs.Left.{Leaves};
 ghost use Rattle.ch32_i2c.specs.Transfer.{transaction_begin, transaction_step};
 ghost use Rattle.operation_bytes.specs.Encoded.{encoded};
@@ -7,6 +7,7 @@ use ch32_i2c::transfer;
 use operation_bytes::slice;
 use operations::Operation;
 
+#[tactic(auto, using(crate::proofs::ManyLaws::begin_first))]
 pub fn begin(
     block: &mut [u8],
     chip: u8,
@@ -21,6 +22,7 @@ pub fn begin(
     transfer::ch32_i2c_transaction_begin(block, chip, address, list.as_slice(), written, read)
 }
 
+#[tactic(auto, using(crate::proofs::ManyLaws::step_first))]
 pub fn step(
     block: &mut [u8],
     operations: &[Operation],

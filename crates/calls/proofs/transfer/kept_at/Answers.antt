@@ -8,7 +8,7 @@ use Rattle.calls.proofs.transfer.kept_at.Goals as goal
 
 pub returns-then-is_kept : goal.returns-then-is_kept
 returns-then-is_kept c =
-    λ list written room entry s h. ap (λ (t : Bool). cond t (Some c.word_at.result) None) (sym c.if-is_kept.true) ∙ place_told entry list written room _ s _ _ h c.word_at.ensures c.is_kept.ensures
+    λ list written room entry s h. ap (λ (t : Bool). cond t (Some c.word.result) None) (sym c.if-is_kept.true) ∙ place_told entry list written room _ s _ _ h c.word.ensures c.is_kept.ensures
 
 pub returns-else-is_kept : goal.returns-else-is_kept
 returns-else-is_kept c =

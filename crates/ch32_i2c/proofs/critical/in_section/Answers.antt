@@ -1,17 +1,23 @@
 -- `ch32_i2c::critical::in_section` meets its contract.
-use borrow.Author.Rules.{rules}
-use Rattle.ch32_i2c.proofs.CriticalLaws.{in_address, in_read, in_stop, in_none}
+use Rattle.std.proofs.Common.{◌≡◌, sym, ap, ◌∙◌}
+use Rattle.std.specs.Prelude.{is_some}
+use Rattle.stage_numbers.specs.MasterGroup.{group_number, group_of}
+use Rattle.stage_numbers.proofs.NumberedLaws.{told, number_told}
+use Rattle.ch32_i2c.proofs.CriticalLaws.{in_address, in_read, in_stop, half_found}
 use Rattle.ch32_i2c.proofs.critical.in_section.Goals as goal
 
-pub returns-in-4 : goal.returns-in-4
-returns-in-4 c = rw c.in-4.is (in_address c.args.what c.args.phase (search rules))
+pub returns-in-Some-Address : goal.returns-in-Some-Address
+returns-in-Some-Address c =
+    let group : c.args.group ≡ 4 = sym (number_told (told group_number group_of c.args.group c.in-Some-Address.ensures)) ∙ ap group_number c.in-Some-Address.field-0-is in
+    rw (group, c.in_address_section.ensures) (in_address c.args.what c.args.phase)
 
-pub returns-in-7 : goal.returns-in-7
-returns-in-7 c = rw (c.in-7.is, c.in_read_section.ensures) (in_read c.args.what c.args.phase)
+pub returns-in-Some-ReadIter : goal.returns-in-Some-ReadIter
+returns-in-Some-ReadIter c =
+    let group : c.args.group ≡ 7 = sym (number_told (told group_number group_of c.args.group c.in-Some-ReadIter.ensures)) ∙ ap group_number c.in-Some-ReadIter.field-0-is in
+    rw (group, c.in_read_section.ensures) (in_read c.args.what c.args.phase)
 
-pub returns-in-8 : goal.returns-in-8
-returns-in-8 c = rw c.in-8.is (in_stop c.args.what c.args.phase (search rules) (search rules))
-
-pub returns-in_default : goal.returns-in_default
-returns-in_default c =
-    in_none c.args.group c.args.what c.args.phase c.in_default.in_default-own.rest.0.0.1 c.in_default.in_default-own.rest.0.1 c.in_default.in_default-own.rest.1
+pub returns-in-Some-GenerateStop : goal.returns-in-Some-GenerateStop
+returns-in-Some-GenerateStop c =
+    let group : c.args.group ≡ 8 = sym (number_told (told group_number group_of c.args.group c.in-Some-GenerateStop.ensures)) ∙ ap group_number c.in-Some-GenerateStop.field-0-is in
+    let half = c.is_some.ensures ∙ ap is_some c.of-in-Some-GenerateStop.ensures ∙ half_found c.args.phase in
+    rw (group, c.in_stop_section.ensures, half) (in_stop c.args.what c.args.phase)
