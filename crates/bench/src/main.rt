@@ -3,6 +3,9 @@
 
 ghost use Rattle.std.specs.Prelude.{◌≡◌, ◌≤◌, take, IfOk, IfSome};
 
+use bench_run::answer;
+use bench_run::answer::Room;
+use bench_text::Text;
 use input_bytes::read_full;
 use std::io;
 use std::io::Read;
@@ -16,20 +19,24 @@ fn front<R: Read>(input: &mut R, text: &mut [u8; 65537]) -> io::Result<usize>
 }
 
 fn main(rt: HostRuntime) -> io::Result<()> {
-    let mut text = [0u8; 65537];
-    let n = front(&mut rt.reader(), &mut text)?;
+    let mut input = [0u8; 65537];
+    let n = front(&mut rt.reader(), &mut input)?;
     let mut list = [0u8; 65536];
     let mut written = [0u8; 65536];
     let mut answers = [0u16; 4096];
     let mut read = [0u8; 65535];
     let mut out = [0u8; 262168];
-    let m = bench_run::answer::answer(
-        &text[..n],
-        &mut list,
-        &mut written,
-        &mut answers,
-        &mut read,
-        &mut out,
-    );
-    rt.write_all(&out[..m])
+    let mut text = Text {
+        out: &mut out,
+        at: 0,
+    };
+    let room = Room {
+        list: &mut list,
+        written: &mut written,
+        answers: &mut answers,
+        read: &mut read,
+    };
+    answer::answer(&mut text, &input[..n], room);
+    let Text { out, at } = text;
+    rt.write_all(&out[..at])
 }

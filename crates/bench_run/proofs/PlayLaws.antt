@@ -16,21 +16,17 @@ use Rattle.bench_run.specs.Play.{asked, arriving, is_end, access_text, finish_te
 
 module _ (list written answers : List ℕ) where
   -- before an access: what is left to print, and the bounds
-  pub record Going (block₀ read₀ out₀ all out : List ℕ) (h : Left) (used arrived at turns : ℕ) : Type 0 where
-    pub leads : Leads out at (play_from turns list written answers h used arrived) out₀ 0 all
+  pub record Going (at₀ : ℕ) (out₀ all out : List ℕ) (h : Left) (used arrived at turns : ℕ) : Type 0 where
+    pub leads : Leads out at (play_from turns list written answers h used arrived) out₀ at₀ all
     pub width : length out ≡ length out₀
-    pub sized : length h.block ≡ length block₀
-    pub room : length h.read ≡ length read₀
     pub fits : used ≤ length answers
     pub few : arrived + turns ≤ 16384
-    pub space : at + 14 * turns ≤ 229376
+    pub space : at + 14 * turns ≤ at₀ + 229376
 
-  pub going_starts : (out : List ℕ) (h : Left) (turns : ℕ) → turns ≤ 16384 → Going h.block h.read out (play_from turns list written answers h 0 0) out h 0 0 0 turns
-  going_starts out h turns l = record {
-    leads = leads_from out 0 (play_from turns list written answers h 0 0);
+  pub going_starts : (at₀ : ℕ) (out : List ℕ) (h : Left) (turns : ℕ) → turns ≤ 16384 → Going at₀ out (play_from turns list written answers h 0 0) out h 0 0 at₀ turns
+  going_starts at₀ out h turns l = record {
+    leads = leads_from out at₀ (play_from turns list written answers h 0 0);
     width = refl;
-    sized = refl;
-    room = refl;
     fits = omega arith;
     few = omega arith;
     space = omega arith;
@@ -65,23 +61,21 @@ module _ (list written answers : List ℕ) where
     play_on zero l e q = absurd (omega arith)
     play_on (suc n) l e q = let k : suc n - 1 ≡ n = omega arith in rw k (play_goes n e q)
 
-  module _ {block₀ read₀ out₀ all out : List ℕ} {h : Left} {used arrived at turns : ℕ} (g : Going block₀ read₀ out₀ all out h used arrived at turns) where
+  module _ {at₀ : ℕ} {out₀ all out : List ℕ} {h : Left} {used arrived at turns : ℕ} (g : Going at₀ out₀ all out h used arrived at turns) where
     -- the last lines are put
-    pub going_ends : {out' xs : List ℕ} {r : ℕ} → play_from turns list written answers h used arrived ≡ xs → Puts out at xs r out' → Puts out₀ 0 all r out'
+    pub going_ends : {out' xs : List ℕ} {r : ℕ} → play_from turns list written answers h used arrived ≡ xs → Puts out at xs r out' → Puts out₀ at₀ all r out'
     going_ends {out'} {xs} {r} e p = leads_end (leads_put xs [] (leads_same (e ∙ sym (append-nil xs)) g.leads) p)
 
     -- an access is put
     pub going_on : {out' block' read' : List ℕ} {next' : Next} {m k n a : ℕ} → 0 < turns → is_end h.next ≡ false → k ≡ asked h.next → used + k ≤ length answers → n ≡ arriving h.next → n ≤ 1
-        → a ≡ get_or answers used 0 → Puts out at (access_text h.next a) m out' → m ≤ at + 14 → length out' ≡ length out → length block' ≡ length h.block → length read' ≡ length h.read
+        → a ≡ get_or answers used 0 → Puts out at (access_text h.next a) m out' → m ≤ at + 14 → length out' ≡ length out
         → next' ≡ (transaction_step h.block list written h.read a).next → block' ≡ (transaction_step h.block list written h.read a).block → read' ≡ (transaction_step h.block list written h.read a).read
-        → Going block₀ read₀ out₀ all out' (left next' block' read') (used + k) (arrived + n) m (turns - 1)
-    going_on {out'} {block'} {read'} {next'} {m} {k} {n} {a} l e ek fit en small ea p near lo lb lr es eb er = record {
+        → Going at₀ out₀ all out' (left next' block' read') (used + k) (arrived + n) m (turns - 1)
+    going_on {out'} {block'} {read'} {next'} {m} {k} {n} {a} l e ek fit en small ea p near lo es eb er = record {
       leads =
           rw (es, eb, er, ea, ek, en)
           (leads_put (access_text h.next (get_or answers used 0)) _ (leads_same (play_on h used arrived turns l e (rw ek at fit)) g.leads) (rw ea at p));
       width = lo ∙ g.width;
-      sized = lb ∙ g.sized;
-      room = lr ∙ g.room;
       fits = fit;
       few = omega (arith, g.few);
       space = omega (arith, g.space);

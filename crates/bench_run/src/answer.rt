@@ -1,50 +1,55 @@
 // What the bench program prints for an input.
-ghost use Rattle.std.specs.Prelude.{◌≤◌, length};
+ghost use Rattle.std.specs.Prelude.{◌≡◌, ◌+◌, ◌≤◌, length};
 ghost use Rattle.bench_text.specs.Puts.{Puts};
 ghost use Rattle.bench_text.specs.Input.{input_of};
 ghost use Rattle.bench_run.specs.Printed.{printed_of};
 
 use crate::play;
-use bench_text::{input, shown};
+use crate::turn::Lent;
+use bench_text::{Call, Text, input};
 
-// Puts the text for an input at the start of `out`, and answers how long it is. The other buffers are room to work in.
-// They are lent, since this cannot fail, as a `String` or a `Vec` can.
-pub fn answer(
-    text: &[u8],
-    list: &mut [u8],
-    written: &mut [u8],
-    answers: &mut [u16],
-    read: &mut [u8],
-    out: &mut [u8],
-) -> usize
-    requires in_bounds { 65536 ≤ length list.old }
-    requires in_bounds_2 { 65536 ≤ length written.old }
-    requires in_bounds_3 { 4096 ≤ length answers.old }
-    requires in_bounds_4 { 65535 ≤ length read.old }
-    requires in_bounds_5 { 262168 ≤ length out.old }
-    ensures puts { Puts out.old 0 (printed_of (input_of text.now) read.old) result out.new }
-    ensures upper_bound { result ≤ length out.old }
+// Room to work in.
+#[derive(Drop)]
+pub struct Room<'a> {
+    pub list: &'a mut [u8],
+    pub written: &'a mut [u8],
+    pub answers: &'a mut [u16],
+    pub read: &'a mut [u8],
+}
+
+// Puts the text for an input. What is lent is lent, since this cannot fail, as a `String` or a `Vec` can.
+pub fn answer(text: &mut Text, input: &[u8], room: Room)
+    requires in_bounds { 65536 ≤ length room.list.now }
+    requires in_bounds_2 { 65536 ≤ length room.written.now }
+    requires in_bounds_3 { 4096 ≤ length room.answers.now }
+    requires in_bounds_4 { 65535 ≤ length room.read.now }
+    requires in_bounds_5 { text.old.at + 262168 ≤ length text.old.out.now }
+    ensures puts { Puts text.old.out.now text.old.at (printed_of (input_of input.now) room.entry.read.now) text.new.at text.new.out.now }
+    ensures upper_bound { text.new.at ≤ length text.old.out.now }
+    ensures same_length { length text.new.out.now ≡ length text.old.out.now }
 {
-    match input::parse(text, list, written, answers) {
-        Err(line) => shown::put_bad(out, 0, line.number),
-        Ok(call) => {
-            let header = call.header;
-            let parts = call.parts;
-            let listed = parts.listed;
-            let sent = parts.written;
-            let room = parts.room as usize;
-            let given = parts.answers;
-            let mut block = [0u8; 32];
-            play::play(
-                header.chip,
-                header.address,
-                &mut block,
-                &list[..listed],
-                &written[..sent],
-                &mut read[..room],
-                &answers[..given],
-                out,
-            )
-        }
-    }
+    let Room {
+        list,
+        written,
+        answers,
+        read,
+    } = room;
+    let Call { header, parts } = match input::parse(input, list, written, answers) {
+        Err(line) => return text.put_bad(line.number),
+        Ok(call) => call,
+    };
+    let mut block = [0u8; 32];
+    let mut lent = Lent {
+        block: &mut block,
+        list: &list[..parts.listed],
+        written: &written[..parts.written],
+        read: &mut read[..parts.room as usize],
+    };
+    play::play(
+        header.chip,
+        header.address,
+        &mut lent,
+        &answers[..parts.answers],
+        text,
+    );
 }

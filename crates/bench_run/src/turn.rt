@@ -5,41 +5,60 @@ ghost use Rattle.ch32_i2c.specs.Transfer.{transaction_begin, transaction_step};
 
 use access::{Next, ending};
 use ch32_i2c::transfer;
-use registers::register;
+use registers::Register;
 
-// What a returned number tells.
+// What a returned number tells. A function: neither `u64` nor `Next` is this crate's own, so no `From`.
 fn next_of(number: u64) -> Next
     ensures { result ≡ next_of number }
 {
-    let code = (number / 256 % 256) as u8;
-    let value = (number / 65536 % 65536) as u16;
-    match number % 256 {
+    let [kind, code, low, high, ..] = number.to_le_bytes();
+    let value = u16::from_le_bytes([low, high]);
+    match kind {
         0 => Next::End(ending::ending_in(number)),
-        1 => Next::Read(register::of_number(code)),
-        2 => Next::Write(register::of_number(code), value),
+        1 => Next::Read(Register::from(code)),
+        2 => Next::Write(Register::from(code), value),
         _ => Next::Clock,
     }
 }
 
-pub fn begin(
-    block: &mut [u8],
-    chip: u8,
-    address: u8,
-    list: &[u8],
-    written: &[u8],
-    read: &mut [u8],
-) -> Next
-    ensures value { result ≡ (transaction_begin block.old chip address list.now written.now read.old).next }
-    ensures block_after { block.new ≡ (transaction_begin block.old chip address list.now written.now read.old).block }
-    ensures read_after { read.new ≡ (transaction_begin block.old chip address list.now written.now read.old).read }
-{
-    next_of(transfer::ch32_i2c_transaction_begin(block, chip, address, list, written, read))
+// What is lent at each step.
+#[derive(Drop)]
+pub struct Lent<'a> {
+    pub block: &'a mut [u8],
+    pub list: &'a [u8],
+    pub written: &'a [u8],
+    pub read: &'a mut [u8],
 }
 
-pub fn step(block: &mut [u8], list: &[u8], written: &[u8], read: &mut [u8], answer: u16) -> Next
-    ensures value { result ≡ (transaction_step block.old list.now written.now read.old answer).next }
-    ensures block_after { block.new ≡ (transaction_step block.old list.now written.now read.old answer).block }
-    ensures read_after { read.new ≡ (transaction_step block.old list.now written.now read.old answer).read }
+pub fn begin(lent: &mut Lent, chip: u8, address: u8) -> Next
+    ensures value { result ≡ (transaction_begin lent.old.block.now chip address lent.old.list.now lent.old.written.now lent.old.read.now).next }
+    ensures block_after { lent.new.block.now ≡ (transaction_begin lent.old.block.now chip address lent.old.list.now lent.old.written.now lent.old.read.now).block }
+    ensures read_after { lent.new.read.now ≡ (transaction_begin lent.old.block.now chip address lent.old.list.now lent.old.written.now lent.old.read.now).read }
+    ensures list_kept { lent.new.list.now ≡ lent.old.list.now }
+    ensures written_kept { lent.new.written.now ≡ lent.old.written.now }
 {
-    next_of(transfer::ch32_i2c_transaction_step(block, list, written, read, answer))
+    next_of(transfer::ch32_i2c_transaction_begin(
+        lent.block,
+        chip,
+        address,
+        lent.list,
+        lent.written,
+        lent.read,
+    ))
+}
+
+pub fn step(lent: &mut Lent, answer: u16) -> Next
+    ensures value { result ≡ (transaction_step lent.old.block.now lent.old.list.now lent.old.written.now lent.old.read.now answer).next }
+    ensures block_after { lent.new.block.now ≡ (transaction_step lent.old.block.now lent.old.list.now lent.old.written.now lent.old.read.now answer).block }
+    ensures read_after { lent.new.read.now ≡ (transaction_step lent.old.block.now lent.old.list.now lent.old.written.now lent.old.read.now answer).read }
+    ensures list_kept { lent.new.list.now ≡ lent.old.list.now }
+    ensures written_kept { lent.new.written.now ≡ lent.old.written.now }
+{
+    next_of(transfer::ch32_i2c_transaction_step(
+        lent.block,
+        lent.list,
+        lent.written,
+        lent.read,
+        answer,
+    ))
 }

@@ -12,6 +12,8 @@ use lib.Dec.{eqb, ltb}
 use lib.ListN.{length, take, drop, length-append, length-drop, length-take}
 use lib.Seq.{sets, length-sets}
 use Rattle.std.specs.Prelude as rust
+use Rattle.std.specs.Result.{IsErrAnd}
+use Rattle.std.proofs.lemmas.Result.{err_from_is_err_and}
 use Rattle.bench_text.specs.declared.line.Header.{Header}
 use Rattle.bench_text.specs.declared.input.Parts.{Parts}
 use Rattle.bench_text.specs.Lines.{line_length, lines_from, lines_of}
@@ -224,6 +226,10 @@ module _ (text : List ℕ) (chip address : ℕ) (list₀ written₀ words₀ : L
             given = grows.3;
             counted = omega (arith, first.whole, first.positive, b.counted);
           }
+
+-- an error that `?` hands on
+pub handed_on : {T T' E : Type 0} {x y : E} (r : rust.Result T E) → IsErrAnd r (λ e. e ≡ x) → ◌≡◌ {A = rust.Result T' E} (rust.Err x) (rust.Err y) → r ≡ rust.Err y
+handed_on r h v = let p = err_from_is_err_and r h in cc (p.1, p.2, v)
 
 -- ---- the whole input
 

@@ -1,17 +1,17 @@
 -- What a line says, and how long it is.
 -- Assumes nothing.
-use Prim.Native.Nat.{ℕ, suc, ◌+◌, ◌*◌, ◌/◌, ◌≤◌, ◌<◌}
-use mathlib.Core.Path.{◌≡◌, refl, ap, ◌∙◌}
+use Prim.Native.Nat.{ℕ, zero, suc, ◌+◌, ◌*◌, ◌/◌, ◌≤◌, ◌<◌}
+use mathlib.Core.Path.{◌≡◌, refl, sym, ap}
 use mathlib.Core.Bool.{Bool, true, false, cond, not, ◌&&◌}
 use Rattle.std.specs.Prelude.{Option, None, Some, ◌==◌, is_some, unwrap_or}
 use Rattle.std.specs.List.{position, prefix_len, list_all}
 use Rattle.std.specs.Cmp.Lexicographic.{pointwise}
 use Rattle.std.specs.Simd.{first_chunks}
-use mathlib.Core.List.{List, [], ◌∷◌, map}
+use mathlib.Core.List.{List, [], ◌∷◌, ◌++◌, map}
 use native.Mathlib.Omega.{arith}
-use borrow.Author.Tests.{eq-eqb, ne_eqb, ltb-true, ltb-false}
-use lib.Dec.{eqb, ltb}
-use lib.ListN.{length, get_or, take, drop}
+use borrow.Author.Tests.{ltb-true, ltb-false}
+use lib.Dec.{eqb, ltb, eqb-suc-zero}
+use lib.ListN.{length, get_or, drop}
 use Rattle.bench_text.specs.Digits.{pair_of, word_of}
 use Rattle.bench_text.specs.Lines.{line_length}
 use Rattle.bench_text.specs.Forms.{pairs_then_end, bytes_of, words_behind, words_then_end, words_of}
@@ -115,7 +115,7 @@ words_counted (a ∷ b ∷ c ∷ []) = refl
 words_counted (a ∷ b ∷ c ∷ d ∷ []) = refl
 words_counted (a ∷ b ∷ c ∷ d ∷ s ∷ l) = omega (arith, words_counted l)
 
-pub short_words : (l : List ℕ) → length l < 5 → words_then_end l ≡ false
+short_words : (l : List ℕ) → length l < 5 → words_then_end l ≡ false
 unfolding words_then_end
 short_words [] h = refl
 short_words (a ∷ []) h = refl
@@ -124,44 +124,74 @@ short_words (a ∷ b ∷ c ∷ []) h = refl
 short_words (a ∷ b ∷ c ∷ d ∷ []) h = refl
 short_words (a ∷ b ∷ c ∷ d ∷ s ∷ l) h = absurd (omega arith)
 
-first_word : (l : List ℕ) → 5 ≤ length l → words_then_end l ≡ cond (is_some (word_in (take 5 l))) (words_behind (get_or (take 5 l) 4 0) (drop 5 l) (words_then_end (drop 5 l))) false
+-- the last word and those before it
+abbrev ended_by : ℕ → List ℕ → Bool
+ended_by e c = is_some (word_in c) && eqb (get_or c 4 0) e
+
+abbrev words_checked : List ℕ → List (List ℕ) → List ℕ → Bool
+words_checked l before last = (eqb (length (drop (length l / 5 * 5) l)) 0 && list_all (ended_by 44) before) && ended_by 10 last
+
+no_words : (l : List ℕ) → words_in l ≡ [] → length l / 5 ≡ 0
+no_words l e = go (length l / 5) l e
+  where
+    go : (n : ℕ) (l : List ℕ) → first_chunks 5 n l ≡ [] → n ≡ 0
+    go zero l e = refl
+    go (suc n) l e = let z : ◌≡◌ {A = ℕ} 0 1 = cc in absurd (omega arith)
+
+no_last : (before : List (List ℕ)) (last : List ℕ) → [] ≡ before ++ (last ∷ []) → ⊥
+no_last [] last e = let z : ◌≡◌ {A = ℕ} 0 1 = cc in omega arith
+no_last (c ∷ before) last e = let z : ◌≡◌ {A = ℕ} 0 1 = cc in omega arith
+
+-- the only word
+only : (s : ℕ) (w : Bool) (l : List ℕ) → words_in l ≡ [] → (eqb (length (drop (length l / 5 * 5) l)) 0 && true) && (w && eqb s 10) ≡ cond w (words_behind s l (words_then_end l)) false
+only s w l e = rw (no_words l e) (go l w (short_words l (omega (arith, no_words l e))))
+  where
+    shut : (w t : Bool) → false ≡ cond w (cond t false false) false
+    shut true true = refl
+    shut true false = refl
+    shut false t = refl
+
+    go : (l : List ℕ) (w : Bool) → words_then_end l ≡ false → (eqb (length l) 0 && true) && (w && eqb s 10) ≡ cond w (words_behind s l (words_then_end l)) false
+    go [] true f = refl
+    go [] false f = refl
+    go (x ∷ l) w f = rw (eqb-suc-zero (length l), f) (shut w (eqb s 44))
+
+-- one with others behind it
+others : (e w t a z m : Bool) → (e && a) && z ≡ m → (e && ((w && t) && a)) && z ≡ cond w (cond t m false) false
+others e true true a z m q = q
+others true true false a z m q = refl
+others true false t a z m q = refl
+others false true false a z m q = refl
+others false false t a z m q = refl
+
+pub words_all : (l : List ℕ) (before : List (List ℕ)) (last : List ℕ) → words_in l ≡ before ++ (last ∷ []) → words_checked l before last ≡ words_then_end l
 unfolding words_then_end
-first_word [] h = absurd (omega arith)
-first_word (a ∷ []) h = absurd (omega arith)
-first_word (a ∷ b ∷ []) h = absurd (omega arith)
-first_word (a ∷ b ∷ c ∷ []) h = absurd (omega arith)
-first_word (a ∷ b ∷ c ∷ d ∷ []) h = absurd (omega arith)
-first_word (a ∷ b ∷ c ∷ d ∷ s ∷ l) h = refl
+words_all [] before last e = absurd (no_last before last e)
+words_all (a ∷ []) before last e = absurd (no_last before last e)
+words_all (a ∷ b ∷ []) before last e = absurd (no_last before last e)
+words_all (a ∷ b ∷ c ∷ []) before last e = absurd (no_last before last e)
+words_all (a ∷ b ∷ c ∷ d ∷ []) before last e = absurd (no_last before last e)
+words_all (a ∷ b ∷ c ∷ d ∷ s ∷ l) before last e =
+    let k : suc (suc (suc (suc (suc (length l))))) / 5 * 5 ≡ suc (suc (suc (suc (suc (length l / 5 * 5))))) = omega arith in
+    rw k (go before (rw (five_more (length l)) at e) (λ rs n. words_all l rs last n))
+  where
+    word : List ℕ
+    word = a ∷ b ∷ c ∷ d ∷ s ∷ []
 
--- by the first word, and what stands behind it
-module _ (left : List ℕ) {word behind : List ℕ} (w : word ≡ take 5 left) (b : behind ≡ drop 5 left) (long : 5 ≤ length left) {r : Bool} (value : r ≡ is_some (word_in word)) where
-  words_first : words_then_end left ≡ cond r (words_behind (get_or word 4 0) behind (words_then_end behind)) false
-  words_first = rw (value, w, b) (first_word left long)
-
-  pub bad_word : r ≡ false → words_then_end left ≡ false
-  bad_word n = rw n at words_first
-
-  module _ (good : r ≡ true) where
-    goes_on : words_then_end left ≡ words_behind (get_or word 4 0) behind (words_then_end behind)
-    goes_on = rw good at words_first
-
-    pub last_word : length behind ≡ 0 → words_then_end left ≡ eqb (get_or word 4 0) 10
-    last_word h = goes_on ∙ go behind (get_or word 4 0) (words_then_end behind) h
+    go : (before : List (List ℕ)) → word ∷ words_in l ≡ before ++ (last ∷ []) → ((rs : List (List ℕ)) → words_in l ≡ rs ++ (last ∷ []) → words_checked l rs last ≡ words_then_end l)
+        → (eqb (length (drop (length l / 5 * 5) l)) 0 && list_all (ended_by 44) before) && ended_by 10 last ≡ cond (is_some (word_of a b c d)) (words_behind s l (words_then_end l)) false
+    go [] e more =
+        let f : last ≡ word = cc in
+        let n : words_in l ≡ [] = cc in
+        rw f (only s (is_some (word_of a b c d)) l n)
+    go (r ∷ rs) e more =
+        let f : r ≡ word = cc in
+        let n : words_in l ≡ rs ++ (last ∷ []) = cc in
+        rw (f, turn l n) (others (eqb (length (drop (length l / 5 * 5) l)) 0) (is_some (word_of a b c d)) (eqb s 44) (list_all (ended_by 44) rs) (ended_by 10 last) (words_then_end l) (more rs n))
       where
-        go : (l : List ℕ) (s : ℕ) (x : Bool) → length l ≡ 0 → words_behind s l x ≡ eqb s 10
-        go [] s x h = refl
-        go (y ∷ l) s x h = absurd (omega arith)
+        turn : (l : List ℕ) → words_in l ≡ rs ++ (last ∷ []) → words_behind s l (words_then_end l) ≡ cond (eqb s 44) (words_then_end l) false
+        turn [] n = absurd (no_last rs last n)
+        turn (x ∷ l) n = refl
 
-    module _ (more : length behind ≡ 0 → ⊥) where
-      parted : words_then_end left ≡ cond (eqb (get_or word 4 0) 44) (words_then_end behind) false
-      parted = goes_on ∙ go behind (get_or word 4 0) (words_then_end behind) more
-        where
-          go : (l : List ℕ) (s : ℕ) (x : Bool) → (length l ≡ 0 → ⊥) → words_behind s l x ≡ cond (eqb s 44) x false
-          go [] s x h = absurd (h refl)
-          go (y ∷ l) s x h = refl
-
-      pub no_comma : (get_or word 4 0 ≡ 44 → ⊥) → words_then_end left ≡ false
-      no_comma n = parted ∙ rw (ne_eqb (get_or word 4 0) 44 n)
-
-      pub more_words : get_or word 4 0 ≡ 44 → words_then_end left ≡ words_then_end behind
-      more_words n = parted ∙ rw (eq-eqb (get_or word 4 0) 44 n)
+pub no_words_at_all : (l : List ℕ) → length l / 5 ≡ 0 → false ≡ words_then_end l
+no_words_at_all l e = sym (short_words l (omega arith))

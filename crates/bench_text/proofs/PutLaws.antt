@@ -9,7 +9,7 @@ use native.Mathlib.Nat.{add-zero}
 use native.Mathlib.Numerals.{add-one}
 use native.Mathlib.Omega.{arith}
 use lib.ListN.{length, get_or, take, drop, set, length-append, drop_of_length-le}
-use lib.Seq.{sets, drop-cons, drop-drop}
+use lib.Seq.{sets, length-sets, drop-cons, drop-drop}
 use Rattle.bench_text.specs.Digits.{pair_text, hex_text}
 use Rattle.bench_text.specs.Puts.{Puts}
 
@@ -25,6 +25,10 @@ both {o} {o'} {o''} {at} {m} {r} {xs} {ys} p q = record {
   place = omega (arith, length-append xs ys, p.place, q.place);
   holds = q.holds ∙ ap (λ (b : List ℕ). sets b m ys) p.holds ∙ ap (λ (k : ℕ). sets (sets o at xs) k ys) p.place ∙ sets_append o at xs ys;
 }
+
+-- a buffer stays as long as it is
+pub same_length : {o o' xs : List ℕ} {at r : ℕ} → Puts o at xs r o' → length o' ≡ length o
+same_length {o} {o'} {xs} {at} p = ap length p.holds ∙ length-sets o at xs
 
 -- what is still to be put leads to the whole
 pub record Leads (out : List ℕ) (at : ℕ) (rest : List ℕ) (out₀ : List ℕ) (at₀ : ℕ) (all : List ℕ) : Type 0 where

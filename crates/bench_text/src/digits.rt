@@ -10,7 +10,7 @@ pub fn digit(byte: u8) -> Option<u8>
 {
     match byte {
         b'0'..=b'9' => Some(byte - b'0'),
-        b'a'..=b'f' => Some(byte - 87),
+        b'a'..=b'f' => Some(byte - b'a' + 10),
         _ => None,
     }
 }
@@ -41,5 +41,5 @@ pub fn glyph(n: u16) -> u8
     ensures { result ≡ glyph n }
 {
     let d = (n % 16) as u8;
-    if d < 10 { 48 + d } else { 87 + d }
+    if d < 10 { b'0' + d } else { b'a' + (d - 10) }
 }

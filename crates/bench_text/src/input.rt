@@ -9,7 +9,7 @@ use crate::line;
 use crate::line::Header;
 
 // What the lines so far come to: the bytes of the list and to write, the bytes to read (65,535 for more), the answers, and
-// whether an `A` line came.
+// whether an `A` line came. (Lengths and no slices: each line puts more into the buffers, which are the caller's.)
 #[derive(Clone, Copy)]
 pub struct Parts {
     pub listed: usize,
@@ -36,9 +36,10 @@ pub struct BadLine {
 fn put_operation(list: &mut [u8], at: usize, direction: u8, length: usize)
     ensures { list.new ≡ sets list.old at (operation_bytes direction length) }
 {
+    let [low, high, ..] = length.to_le_bytes();
     line::put_at(list, at, 0, direction);
-    line::put_at(list, at, 1, (length % 256) as u8);
-    line::put_at(list, at, 2, (length / 256 % 256) as u8);
+    line::put_at(list, at, 1, low);
+    line::put_at(list, at, 2, high);
 }
 
 #[tactic(auto, unfolding(crate::specs::Taken::taken_with, crate::specs::Taken::list_with, crate::specs::Taken::written_with, crate::specs::Input::writes_in))]
@@ -62,9 +63,7 @@ fn take_write(line: &[u8], parts: Parts, list: &mut [u8], written: &mut [u8]) ->
     Some(Parts {
         listed: parts.listed + 3,
         written: parts.written + count,
-        room: parts.room,
-        answers: parts.answers,
-        answered: false,
+        ..parts
     })
 }
 
@@ -74,11 +73,7 @@ fn room_with(room: u32, length: u32) -> u32
     ensures value { result ≡ room_with room length }
     ensures upper_bound { result ≤ 65535 }
 {
-    if 65535 < room + length {
-        65535
-    } else {
-        room + length
-    }
+    (room + length).min(65535)
 }
 
 #[tactic(auto, unfolding(crate::specs::Taken::taken_with, crate::specs::Taken::list_with, crate::specs::Input::reads_in))]
@@ -96,10 +91,8 @@ fn take_read(line: &[u8], parts: Parts, list: &mut [u8]) -> Option<Parts>
     put_operation(list, parts.listed, 1, usize::from(length));
     Some(Parts {
         listed: parts.listed + 3,
-        written: parts.written,
         room: room_with(parts.room, u32::from(length)),
-        answers: parts.answers,
-        answered: false,
+        ..parts
     })
 }
 
@@ -121,11 +114,9 @@ fn take_answers(line: &[u8], parts: Parts, answers: &mut [u16]) -> Option<Parts>
     }
     line::put_words(words, answers, parts.answers);
     Some(Parts {
-        listed: parts.listed,
-        written: parts.written,
-        room: parts.room,
         answers: parts.answers + count,
         answered: true,
+        ..parts
     })
 }
 
@@ -185,13 +176,11 @@ fn take_all(
         answers: 0,
         answered: false,
     };
+    // By hand: tried as a `for` over `split_inclusive` and `enumerate`; that its parts are `lines_of` stayed open.
     while !left.is_empty() {
         number += 1;
         let (line, behind) = left.split_at(line::line_end(left));
-        parts = match take(line, parts, list, written, answers) {
-            None => return Err(BadLine { number }),
-            Some(more) => more,
-        };
+        parts = take(line, parts, list, written, answers).ok_or(BadLine { number })?;
         left = behind;
     }
     Ok(Call { header, parts })
@@ -212,8 +201,6 @@ pub fn parse(
         return Err(BadLine { number: 0 });
     }
     let (line, behind) = text.split_at(line::line_end(text));
-    match line::header_in(line) {
-        None => Err(BadLine { number: 1 }),
-        Some(header) => take_all(behind, header, list, written, answers),
-    }
+    let header = line::header_in(line).ok_or(BadLine { number: 1 })?;
+    take_all(behind, header, list, written, answers)
 }

@@ -9,3 +9,4 @@ pub mod shown;
 
 pub use input::{BadLine, Call, Parts};
 pub use line::Header;
+pub use put::Text;

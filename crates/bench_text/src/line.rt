@@ -1,10 +1,10 @@
 // One line, its line feed with it.
-ghost use Rattle.std.specs.Prelude.{◌≡◌, ◌+◌, ◌≤◌, ◌==◌, is_some, length, get_or, set};
+ghost use Rattle.std.specs.Prelude.{◌≡◌, ◌+◌, ◌≤◌, ◌==◌, ◌&&◌, is_some, length, get_or, set};
 ghost use Rattle.std.specs.List.{list_all, position};
 ghost use Rattle.std.proofs.lemmas.List.Edits.{sets};
 ghost use Rattle.bench_text.specs.Digits.{pair_of, word_of};
 ghost use Rattle.bench_text.specs.Lines.{line_length};
-ghost use Rattle.bench_text.specs.Forms.{pairs_then_end, words_then_end, bytes_of, words_of, is_header, header_of, read_length_of};
+ghost use Rattle.bench_text.specs.Forms.{pairs_then_end, words_then_end, bytes_of, words_of, header_of, read_length_of};
 
 use crate::digits;
 
@@ -39,38 +39,21 @@ pub struct Header {
     pub address: u8,
 }
 
-// Whether `T`, commas and the line feed stand where a header has them.
-#[tactic(auto, unfolding(crate::specs::Forms::is_header))]
-fn is_header(line: &[u8]) -> bool
-    ensures { result ≡ is_header line.now }
-{
-    (line.len() == 7)
-        & (byte_at(line, 0) == b'T')
-        & (byte_at(line, 1) == b',')
-        & (byte_at(line, 3) == b',')
-        & (byte_at(line, 6) == 10)
-}
-
 // `T`, the chip and the address.
-#[tactic(auto, unfolding(crate::specs::Forms::header_of))]
+#[tactic(auto, unfolding(crate::specs::Forms::header_of, crate::specs::Forms::is_header))]
 pub fn header_in(line: &[u8]) -> Option<Header>
     ensures { result ≡ header_of line.now }
 {
-    if !is_header(line) {
-        return None;
+    match line {
+        [b'T', b',', chip @ b'0'..=b'3', b',', high, low, b'\n'] => {
+            let address = digits::pair(*high, *low)?;
+            Some(Header {
+                chip: *chip - b'0',
+                address,
+            })
+        }
+        _ => None,
     }
-    let chip = byte_at(line, 2);
-    if chip < 48 {
-        return None;
-    }
-    if 51 < chip {
-        return None;
-    }
-    let address = digits::pair(byte_at(line, 4), byte_at(line, 5))?;
-    Some(Header {
-        chip: chip - 48,
-        address,
-    })
 }
 
 // The length of an `R` line.
@@ -78,18 +61,10 @@ pub fn header_in(line: &[u8]) -> Option<Header>
 pub fn read_length(line: &[u8]) -> Option<u16>
     ensures { result ≡ read_length_of line.now }
 {
-    if line.len() != 7 {
-        return None;
+    match line {
+        [_, _, a, b, c, d, b'\n'] => digits::word(*a, *b, *c, *d),
+        _ => None,
     }
-    if byte_at(line, 6) != 10 {
-        return None;
-    }
-    digits::word(
-        byte_at(line, 2),
-        byte_at(line, 3),
-        byte_at(line, 4),
-        byte_at(line, 5),
-    )
 }
 
 // Whether two bytes are hex digits.
@@ -124,6 +99,7 @@ pub fn put_at<T: Copy>(out: &mut [T], to: usize, count: usize, item: T)
 }
 
 // Puts the bytes that hex pairs spell into a buffer, nothing past its end, and answers how many they are.
+// Apart from `put_words`: the length of a chunk is in its type, and the items' types and digits differ too.
 pub fn put_pairs(text: &[u8], out: &mut [u8], to: usize) -> usize
     ensures value { result ≡ length (bytes_of text.now) }
     ensures upper_bound { result ≤ length text.now }
@@ -136,32 +112,30 @@ pub fn put_pairs(text: &[u8], out: &mut [u8], to: usize) -> usize
     pairs.len()
 }
 
-fn is_word(a: u8, b: u8, c: u8, d: u8) -> bool
-    ensures { result ≡ is_some (word_of a b c d) }
+// Whether a word of four hex digits and this byte behind it.
+fn is_word(word: &[u8; 5], end: u8) -> bool
+    ensures { result ≡ (is_some (word_of (get_or word.now 0 0) (get_or word.now 1 0) (get_or word.now 2 0) (get_or word.now 3 0)) && get_or word.now 4 0 == end) }
 {
-    digits::word(a, b, c, d).is_some()
+    digits::word(word[0], word[1], word[2], word[3]).is_some() & (word[4] == end)
 }
 
-// Whether the text is one or more words of four hex digits, a comma behind each but the last, and behind that the line feed.
+// Whether a comma is behind each.
+fn are_words(words: &[[u8; 5]]) -> bool
+    ensures { result ≡ list_all (λ c. is_some (word_of (get_or c 0 0) (get_or c 1 0) (get_or c 2 0) (get_or c 3 0)) && get_or c 4 0 == 44) words.now }
+{
+    words.iter().all(|word| is_word(word, b','))
+}
+
+// Whether the text is one or more words of four hex digits, a comma behind each but the last, and behind that the line feed. (Apart from `is_pairs`, where
+// nothing is between.)
 pub fn is_words(text: &[u8]) -> bool
     ensures { result ≡ words_then_end text.now }
 {
-    let mut left = text;
-    while 5 <= left.len() {
-        let (word, behind) = left.split_at(5);
-        let good = is_word(word[0], word[1], word[2], word[3]);
-        if !good {
-            return false;
-        }
-        if behind.len() == 0 {
-            return word[4] == b'\n';
-        }
-        if word[4] != b',' {
-            return false;
-        }
-        left = behind;
+    let (words, end) = text.as_chunks::<5>();
+    match words.split_last() {
+        Some((last, before)) => end.is_empty() & are_words(before) & is_word(last, b'\n'),
+        None => false,
     }
-    false
 }
 
 // Puts the words into a buffer, nothing past its end, and answers how many they are.

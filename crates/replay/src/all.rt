@@ -1,4 +1,5 @@
 // All calls of the sample, one behind the other.
+use crate::library::Lent;
 use crate::play::Played;
 use crate::{play, stored};
 use std::fmt;
@@ -56,33 +57,50 @@ impl Tally {
     }
 }
 
-// One call, with buffers that are cut to the lengths that it is lent.
-fn one(bytes: &[u8], block: &mut [u8], written: &mut [u8], read: &mut [u8]) -> Option<Played> {
-    let (call, list, accesses) = stored::parts(bytes)?;
-    let block = block.get_mut(..call.block_length)?;
-    let written = written.get_mut(..call.written_length)?;
-    let read = read.get_mut(..call.read_length)?;
-    play::play(call, list, accesses, block, written, read)
+// Buffers as long as the longest that a call is lent.
+#[derive(Drop)]
+pub struct Room<'a> {
+    pub block: &'a mut [u8],
+    pub written: &'a mut [u8],
+    pub read: &'a mut [u8],
 }
 
-// Calls as long as there are whole ones.
-fn calls(sample: &[u8], block: &mut [u8], written: &mut [u8], read: &mut [u8]) -> Tally {
+// One call, with buffers that are cut to the lengths that it is lent.
+fn one(bytes: &[u8], room: &mut Room) -> Option<Played> {
+    let (call, list, accesses) = stored::parts(bytes)?;
+    let block = room.block.get_mut(..call.block_length)?;
+    let written = room.written.get_mut(..call.written_length)?;
+    let read = room.read.get_mut(..call.read_length)?;
+    block.fill(play::STALE);
+    play::fill_lent(written, call.written_seed);
+    play::fill_lent(read, call.read_seed);
+    let mut lent = Lent {
+        block,
+        list,
+        written,
+        read,
+    };
+    play::play(call, accesses, &mut lent)
+}
+
+// Calls as long as there are whole ones. (No `for`: where a call begins is told by the length of the one before it.)
+fn calls(sample: &[u8], room: &mut Room) -> Tally {
     let mut tally = Tally::default();
     let mut left = sample;
     while let Some((call, behind)) = stored::first_call(left) {
-        tally.add(one(call, block, written, read));
+        tally.add(one(call, room));
         left = behind;
     }
     tally
 }
 
-// The whole sample, behind a mark of 8 bytes and the number of its calls; the buffers are as long as the longest that a call is lent.
-pub fn replay(sample: &[u8], block: &mut [u8], written: &mut [u8], read: &mut [u8]) -> Tally {
+// The whole sample, behind a mark of 8 bytes and the number of its calls.
+pub fn replay(sample: &[u8], room: &mut Room) -> Tally {
     let Some((front, behind)) = sample.split_first_chunk::<12>() else {
         return Tally::default();
     };
     let count = u32::from_le_bytes([front[8], front[9], front[10], front[11]]);
-    let mut tally = calls(behind, block, written, read);
+    let mut tally = calls(behind, room);
     tally.whole = tally.calls == u64::from(count);
     tally
 }

@@ -1,6 +1,6 @@
 // The nine entries of the library by a stored call's entry.
 use crate::stored::{Call, Entry};
-use access::ending;
+use access::{Words, ending};
 use ch32_i2c::{init, init_slave, response, transfer};
 use errors::rust;
 use images::numbers;
@@ -16,40 +16,44 @@ pub struct Lent<'a> {
 
 // By a `match`, which is plainer than a table of functions: what each is lent differs.
 pub fn begin(call: Call, lent: &mut Lent) -> u64 {
-    let chip = call.chip;
-    let target = call.target;
     match call.entry {
         Entry::Init => init::ch32_i2c_init_begin(
             lent.block,
-            chip,
+            call.chip,
             call.input,
             call.frequency,
             call.duty,
         ),
         Entry::Transaction => transfer::ch32_i2c_transaction_begin(
             lent.block,
-            chip,
-            target,
+            call.chip,
+            call.target,
             lent.list,
             lent.written,
             lent.read,
         ),
         Entry::WriteRead => transfer::ch32_i2c_write_read_begin(
             lent.block,
-            chip,
-            target,
+            call.chip,
+            call.target,
             lent.written,
             lent.read,
         ),
         Entry::Write => transfer::ch32_i2c_write_begin(
             lent.block,
-            chip,
-            target,
+            call.chip,
+            call.target,
             call.option,
             lent.written,
         ),
         Entry::Read => {
-            transfer::ch32_i2c_read_begin(lent.block, chip, target, call.option, lent.read)
+            transfer::ch32_i2c_read_begin(
+                lent.block,
+                call.chip,
+                call.target,
+                call.option,
+                lent.read,
+            )
         }
         Entry::InitSlave => init_slave::ch32_i2c_init_slave_begin(
             lent.block,
@@ -60,12 +64,12 @@ pub fn begin(call: Call, lent: &mut Lent) -> u64 {
             call.general_call,
             call.clock_stretching,
         ),
-        Entry::Listen => response::ch32_i2c_listen_begin(lent.block, chip),
+        Entry::Listen => response::ch32_i2c_listen_begin(lent.block, call.chip),
         Entry::RespondToWrite => {
-            response::ch32_i2c_respond_to_write_begin(lent.block, chip, lent.read)
+            response::ch32_i2c_respond_to_write_begin(lent.block, call.chip, lent.read)
         }
         Entry::RespondToRead => {
-            response::ch32_i2c_respond_to_read_begin(lent.block, chip, lent.written)
+            response::ch32_i2c_respond_to_read_begin(lent.block, call.chip, lent.written)
         }
     }
 }
@@ -99,7 +103,7 @@ pub fn step(entry: Entry, lent: &mut Lent, answer: u16) -> u64 {
 
 // What stands beside an end: the second count at 0, the flags at an error.
 pub fn extra(end: u64) -> u16 {
-    ending::ending_extra(ending::ending_in(end))
+    Words::from(ending::ending_in(end)).extra
 }
 
 fn is_master(entry: Entry) -> bool {

@@ -9,7 +9,7 @@ mod stored;
 
 ghost use Rattle.std.specs.Prelude.{◌≡◌, length};
 
-use all::Tally;
+use all::{Room, Tally};
 use input_bytes::read_full;
 use std::fs::File;
 use std::io;
@@ -23,12 +23,17 @@ fn space() -> [u8; MOST]
     [0; MOST]
 }
 
-// With buffers for the longest that a call is lent.
+// With room for the longest that a call is lent.
 fn replayed(sample: &[u8]) -> Tally {
     let mut block = [0u8; 4096];
     let mut written = [0u8; 65536];
     let mut read = [0u8; 65536];
-    all::replay(sample, &mut block, &mut written, &mut read)
+    let mut room = Room {
+        block: &mut block,
+        written: &mut written,
+        read: &mut read,
+    };
+    all::replay(sample, &mut room)
 }
 
 fn main(rt: HostRuntime) -> io::Result<()> {

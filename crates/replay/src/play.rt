@@ -6,7 +6,7 @@ use crate::stored::{Access, Call, End, Entry};
 use crate::{library, stored};
 
 // What lies in the block before the call.
-const STALE: u8 = 0xc3;
+pub const STALE: u8 = 0xc3;
 
 // A step after the end.
 const ENDED: u64 = 0xf00;
@@ -23,7 +23,7 @@ fn is_stale(block: &[u8]) -> bool {
 }
 
 // Bytes by the rule of lent bytes.
-fn fill_lent(bytes: &mut [u8], seed: u8) {
+pub fn fill_lent(bytes: &mut [u8], seed: u8) {
     for (i, byte) in bytes.iter_mut().enumerate() {
         *byte = stored::lent(seed, i);
     }
@@ -46,7 +46,7 @@ struct Reached<'a> {
     next: u64,
 }
 
-// Steps as long as the accesses are as stored, up to the last.
+// Steps as long as the accesses are as stored, up to the last. (No `for`: what is left there is handed back.)
 fn steps<'a>(entry: Entry, begun: u64, accesses: &'a [u8], lent: &mut Lent) -> Option<Reached<'a>>
     ensures { IfSome result (λ r. length r.left.now ≤ length accesses.now) }
 {
@@ -80,8 +80,7 @@ fn finish<'a>(
     }
     let (bytes, behind) = reached.left.split_first_chunk::<6>()?;
     let end = End::from(bytes);
-    let entry = call.entry;
-    if library::as_the_rust(entry, call.chip, reached.next) != end.number()
+    if library::as_the_rust(call.entry, call.chip, reached.next) != end.number()
         || library::extra(reached.next) != end.extra
     {
         return None;
@@ -89,7 +88,7 @@ fn finish<'a>(
     let is_over = if is_first && end.error != 0 {
         is_stale(lent.block)
     } else {
-        library::step(entry, lent, 0x1234) == ENDED
+        library::step(call.entry, lent, 0x1234) == ENDED
     };
     is_over.then_some(behind)
 }
@@ -102,28 +101,12 @@ fn arrived(read: &[u8], seed: u8, left: &[u8]) -> Option<u64> {
     same.then_some(u64::from(number))
 }
 
-// A call with everything lent to it, of the lengths that are stored; nothing where it differs.
-pub fn play(
-    call: Call,
-    list: &[u8],
-    accesses: &[u8],
-    block: &mut [u8],
-    written: &mut [u8],
-    read: &mut [u8],
-) -> Option<Played> {
-    block.fill(STALE);
-    fill_lent(written, call.written_seed);
-    fill_lent(read, call.read_seed);
-    let mut lent = Lent {
-        block,
-        list,
-        written,
-        read,
-    };
-    let begun = library::begin(call, &mut lent);
-    let reached = steps(call.entry, begun, accesses, &mut lent)?;
+// A call with what is lent to it; nothing where it differs from what is stored.
+pub fn play(call: Call, accesses: &[u8], lent: &mut Lent) -> Option<Played> {
+    let begun = library::begin(call, lent);
+    let reached = steps(call.entry, begun, accesses, lent)?;
     let compared = accesses.len() - reached.left.len();
-    let left = finish(call, compared == 0, reached, &mut lent)?;
+    let left = finish(call, compared == 0, reached, lent)?;
     let arrived = arrived(lent.read, call.read_seed, left)?;
     Some(Played {
         accesses: (compared / 3) as u64,

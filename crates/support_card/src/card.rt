@@ -4,7 +4,7 @@ ghost use Rattle.registers.specs.Chips.{chips};
 ghost use Rattle.bench_text.specs.Puts.{Puts};
 ghost use Rattle.support_card.specs.CardText.{chip_text, role_text, name_text, line_text, side_text, both_text, card_text};
 
-use bench_text::put;
+use bench_text::Text;
 use registers::Chip;
 
 #[tactic(auto, unfolding(crate::specs::CardText::chip_text))]
@@ -27,7 +27,8 @@ fn role_text(nack: bool) -> [u8; 7]
     if nack { *b"master " } else { *b"slave  " }
 }
 
-// By a class's number, as `words_of` takes it.
+// By a class's number, since `words_of` takes one, and 0 for none. The texts are padded here, since a width is of `format!`,
+// whose `String` can fail.
 #[tactic(auto, unfolding(crate::specs::CardText::name_text))]
 fn name_text(class: u8) -> [u8; 12]
     ensures { result ≡ name_text class }
@@ -44,39 +45,37 @@ fn name_text(class: u8) -> [u8; 12]
 }
 
 // A class and its number of words.
-fn put_line(out: &mut [u8], at: usize, chip: Chip, nack: bool, class: u8) -> usize
-    requires { at + 35 ≤ length out.old }
-    ensures puts { Puts out.old at (line_text chip nack class) result out.new }
-    ensures upper_bound { result ≤ at + 35 }
+fn put_line(text: &mut Text, chip: Chip, nack: bool, class: u8)
+    requires { text.old.at + 35 ≤ length text.old.out.now }
+    ensures puts { Puts text.old.out.now text.old.at (line_text chip nack class) text.new.at text.new.out.now }
+    ensures upper_bound { text.new.at ≤ text.old.at + 35 }
 {
-    let role = put::put(out, at, &chip_text(chip));
-    let name = put::put(out, role, &role_text(nack));
-    let number = put::put(out, name, &name_text(class));
-    let end = put::put_decimal(out, number, class_count::words_of(class, chip, nack));
-    put::put(out, end, b"\n")
+    text.put(&chip_text(chip));
+    text.put(&role_text(nack));
+    text.put(&name_text(class));
+    text.put_decimal(class_count::words_of(class, chip, nack));
+    text.put(b"\n");
 }
 
 // The classes in the order of decision, and none.
-fn put_side(out: &mut [u8], at: usize, chip: Chip, nack: bool) -> usize
-    requires { at + 245 ≤ length out.old }
-    ensures puts { Puts out.old at (side_text chip nack) result out.new }
-    ensures upper_bound { result ≤ at + 245 }
+fn put_side(text: &mut Text, chip: Chip, nack: bool)
+    requires { text.old.at + 245 ≤ length text.old.out.now }
+    ensures puts { Puts text.old.out.now text.old.at (side_text chip nack) text.new.at text.new.out.now }
+    ensures upper_bound { text.new.at ≤ text.old.at + 245 }
 {
     let classes = [2, 1, 4, 5, 6, 3, 0];
-    let mut end = at;
     for class in &classes {
-        end = put_line(out, end, chip, nack, *class);
+        put_line(text, chip, nack, *class);
     }
-    end
 }
 
-fn put_both(out: &mut [u8], at: usize, chip: Chip) -> usize
-    requires { at + 490 ≤ length out.old }
-    ensures puts { Puts out.old at (both_text chip) result out.new }
-    ensures upper_bound { result ≤ at + 490 }
+fn put_both(text: &mut Text, chip: Chip)
+    requires { text.old.at + 490 ≤ length text.old.out.now }
+    ensures puts { Puts text.old.out.now text.old.at (both_text chip) text.new.at text.new.out.now }
+    ensures upper_bound { text.new.at ≤ text.old.at + 490 }
 {
-    let slave = put_side(out, at, chip, true);
-    put_side(out, slave, chip, false)
+    put_side(text, chip, true);
+    put_side(text, chip, false);
 }
 
 // By number: 1 for i2c_v3 plus 2 for ch32v4.
@@ -89,15 +88,15 @@ fn chips() -> [Chip; 4]
     })
 }
 
-// The card at the start of `out`; answers how long it is. Put into a lent buffer, since that cannot fail, as a `String` can.
-pub fn put_card(out: &mut [u8]) -> usize
-    requires { 1995 ≤ length out.old }
-    ensures puts { Puts out.old 0 card_text result out.new }
-    ensures upper_bound { result ≤ 1995 }
+// The card. Put into a lent buffer, since that cannot fail, as a `String` can.
+pub fn put_card(text: &mut Text)
+    requires { text.old.at + 1995 ≤ length text.old.out.now }
+    ensures puts { Puts text.old.out.now text.old.at card_text text.new.at text.new.out.now }
+    ensures upper_bound { text.new.at ≤ text.old.at + 1995 }
+    ensures same_length { length text.new.out.now ≡ length text.old.out.now }
 {
-    let mut end = put::put(out, 0, b"chip      side   class       words\n");
+    text.put(b"chip      side   class       words\n");
     for chip in &chips() {
-        end = put_both(out, end, *chip);
+        put_both(text, *chip);
     }
-    end
 }

@@ -3,10 +3,16 @@
 
 mod card;
 
+use bench_text::Text;
 use std::io;
 
 fn main(rt: HostRuntime) -> io::Result<()> {
     let mut out = [0u8; 1995];
-    let n = card::put_card(&mut out);
-    rt.write_all(&out[..n])
+    let mut text = Text {
+        out: &mut out,
+        at: 0,
+    };
+    card::put_card(&mut text);
+    let Text { out, at } = text;
+    rt.write_all(&out[..at])
 }

@@ -1,10 +1,9 @@
 -- `bench_text::input::take_all` meets its contract: what the lines that are left say leads to what the whole input says.
 use Prim.Native.Nat.{◌<◌}
 use lib.ListN.{length}
-use mathlib.Core.Path.{◌≡◌, sym, ap, ◌∙◌}
+use mathlib.Core.Path.{◌≡◌, sym, ◌∙◌}
 use Rattle.std.proofs.lemmas.Grind.{common_steps}
-use Rattle.bench_text.specs.Taken.{parsed_of}
-use Rattle.bench_text.proofs.InputLaws.{first_of, at_start, all_said, has_room, bad_line_lem, good_line}
+use Rattle.bench_text.proofs.InputLaws.{first_of, at_start, all_said, has_room, bad_line_lem, good_line, handed_on}
 use native.Mathlib.Omega.{arith}
 use Rattle.bench_text.proofs.input.take_all.Goals as goal
 
@@ -18,19 +17,20 @@ take-requires c =
     let f = first_of _ c.line_end.ensures.value s.front s.back h c.line_end.ensures.upper_bound in
     has_room _ _ _ _ _ _ c.loop-left.invariant f c.requires
 
-pub returns-in-None-clause-value : goal.returns-in-None-clause-value
-returns-in-None-clause-value c =
+pub returns-in_err-parts-clause-value : goal.returns-in_err-parts-clause-value
+returns-in_err-parts-clause-value c =
     let s = c.split_at.ensures in
     let h : 0 < length c.loop-left.left.now = grind (arith, common_steps) in
     let f = first_of _ c.line_end.ensures.value s.front s.back h c.line_end.ensures.upper_bound in
-    ap parsed_of (sym (bad_line_lem _ _ _ _ _ _ c.loop-left.invariant f (sym c.take.ensures.value ∙ c.in-None.is)))
+    let v = rw c.in_err-parts.ensures.ok_part at c.in_err-parts.ensures.value in
+    rw (bad_line_lem _ _ _ _ _ _ c.loop-left.invariant f (sym c.take.ensures.value ∙ c.in_err-parts.ensures.ok_part)) (handed_on _ c.from_residual.ensures.1 v)
 
-pub returns-in-None-clause-filled_with : goal.returns-in-None-clause-filled_with
-returns-in-None-clause-filled_with c =
+pub returns-in_err-parts-clause-filled_with : goal.returns-in_err-parts-clause-filled_with
+returns-in_err-parts-clause-filled_with c =
     let s = c.split_at.ensures in
     let h : 0 < length c.loop-left.left.now = grind (arith, common_steps) in
     let f = first_of _ c.line_end.ensures.value s.front s.back h c.line_end.ensures.upper_bound in
-    rw (bad_line_lem _ _ _ _ _ _ c.loop-left.invariant f (sym c.take.ensures.value ∙ c.in-None.is)) tt
+    rw (bad_line_lem _ _ _ _ _ _ c.loop-left.invariant f (sym c.take.ensures.value ∙ c.in_err-parts.ensures.ok_part)) tt
 
 pub loop-left-smaller : goal.loop-left-smaller
 loop-left-smaller c =
@@ -44,7 +44,7 @@ loop-left-preserved c =
     let s = c.split_at.ensures in
     let h : 0 < length c.loop-left.left.now = grind (arith, common_steps) in
     let f = first_of _ c.line_end.ensures.value s.front s.back h c.line_end.ensures.upper_bound in
-    good_line _ _ _ _ _ _ c.loop-left.invariant f (sym c.take.ensures.value ∙ c.in-Some.is) c.take.ensures.list_after c.take.ensures.written_after c.take.ensures.answers_after (rw c.in-Some.is at c.take.ensures.grows)
+    good_line _ _ _ _ _ _ c.loop-left.invariant f (sym c.take.ensures.value ∙ c.in_ok-parts.ensures.ok_part) c.take.ensures.list_after c.take.ensures.written_after c.take.ensures.answers_after (rw c.in_ok-parts.ensures.ok_part at c.take.ensures.grows)
 
 pub returns-clause-value : goal.returns-clause-value
 returns-clause-value c =

@@ -7,7 +7,7 @@ use Rattle.support_card.proofs.card.put_card.Given as goal
 
 abbrev pub invariant-loop-chip : goal.invariant-loop-chip
 invariant-loop-chip l = record {
-  puts : Puts l.fn.out 0 (head_text ++ joined both_text (take l.chip-index chips)) l.end l.out;
-  upper_bound : l.end ≤ 35 + 490 * l.chip-index;
-  same : length l.out ≡ length l.fn.out;
+  puts : Puts l.fn.text.out.now l.fn.text.at (head_text ++ joined both_text (take l.chip-index chips)) l.text.at l.text.out.now;
+  upper_bound : l.text.at ≤ l.fn.text.at + 35 + 490 * l.chip-index;
+  same : length l.text.out.now ≡ length l.fn.text.out.now;
 }

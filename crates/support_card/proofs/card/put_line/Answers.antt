@@ -7,4 +7,4 @@ pub returns-clause-puts : goal.returns-clause-puts
 unfolding line_text
 returns-clause-puts c =
     rw (← c.chip_text.ensures, ← c.role_text.ensures, ← c.name_text.ensures, ← c.words_of.ensures)
-    (both c.put-role.ensures (both c.put-name.ensures (both c.put-number.ensures (both c.put_decimal-end.ensures.puts c.put.ensures))))
+    (both c.put.ensures.puts (both c.put-2.ensures.puts (both c.put-3.ensures.puts (both c.put_decimal.ensures.puts c.put-4.ensures.puts))))

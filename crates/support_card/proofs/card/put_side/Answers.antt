@@ -1,7 +1,8 @@
 -- `support_card::card::put_side` meets its contract: each turn puts one class's line more.
-use Rattle.std.proofs.Common.{refl, arith, [], subst, ℕ, ◌≡◌, take}
+use Rattle.std.proofs.Common.{refl, ◌∙◌, arith, [], subst, ℕ, ◌≡◌, take}
 use Rattle.class_count.specs.Card.{card_classes}
 use Rattle.bench_text.specs.Puts.{Puts}
+use Rattle.bench_text.proofs.PutLaws.{same_length}
 use Rattle.support_card.specs.CardText.{joined, line_text, side_text}
 use Rattle.support_card.proofs.JoinedLaws.{nothing, more_put}
 use Rattle.support_card.proofs.card.put_side.Goals as goal
@@ -13,9 +14,9 @@ pub loop-class-preserved : goal.loop-class-preserved
 loop-class-preserved c =
     let i = c.loop-class.invariant in
     record {
-      puts = more_put (line_text c.args.chip c.args.nack) [] card_classes c.loop-class.class-index _ c.loop-class-test.true i.puts c.put_line-end.ensures.puts;
-      upper_bound = omega (arith, c.put_line-end.ensures.upper_bound, i.upper_bound);
-      same = omega (arith, c.put_line-end.auto.out, i.same);
+      puts = more_put (line_text c.args.chip c.args.nack) [] card_classes c.loop-class.class-index _ c.loop-class-test.true i.puts c.put_line.ensures.puts;
+      upper_bound = omega (arith, c.put_line.ensures.upper_bound, i.upper_bound);
+      same = same_length c.put_line.ensures.puts ∙ i.same;
     }
 
 pub returns : goal.returns
@@ -24,6 +25,6 @@ returns c =
     let i = c.loop-class.invariant in
     let e : c.loop-class.class-index ≡ 7 = omega arith in
     record {
-      puts = subst (λ (n : ℕ). Puts c.args.out.now c.args.at (joined (line_text c.args.chip c.args.nack) (take n card_classes)) c.loop-class.end c.loop-class.out) e i.puts;
+      puts = subst (λ (n : ℕ). Puts c.args.text.now.out.now c.args.text.now.at (joined (line_text c.args.chip c.args.nack) (take n card_classes)) c.loop-class.text.at c.loop-class.text.out.now) e i.puts;
       upper_bound = omega (arith, i.upper_bound, e);
     }

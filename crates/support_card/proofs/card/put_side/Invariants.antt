@@ -7,7 +7,7 @@ use Rattle.support_card.proofs.card.put_side.Given as goal
 
 abbrev pub invariant-loop-class : goal.invariant-loop-class
 invariant-loop-class l = record {
-  puts : Puts l.initial.out l.at (joined (line_text l.chip l.nack) (take l.class-index card_classes)) l.end l.out;
-  upper_bound : l.end ≤ l.at + 35 * l.class-index;
-  same : length l.out ≡ length l.initial.out;
+  puts : Puts l.initial.text.out.now l.initial.text.at (joined (line_text l.chip l.nack) (take l.class-index card_classes)) l.text.at l.text.out.now;
+  upper_bound : l.text.at ≤ l.initial.text.at + 35 * l.class-index;
+  same : length l.text.out.now ≡ length l.initial.text.out.now;
 }

@@ -1,0 +1,6 @@
+-- `bench_text::put::Text::put_end` meets its contract.
+use Rattle.bench_text.proofs.PutLaws.{both}
+use Rattle.bench_text.proofs.put.Text.put_end.Goals as goal
+
+pub returns-clause-puts : goal.returns-clause-puts
+returns-clause-puts c = both c.put.ensures.puts (both c.put_decimal.ensures.puts c.put_used.ensures.puts)
