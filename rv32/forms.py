@@ -22,7 +22,6 @@ ARGUMENT = r'(?:%s %s|ptr %s)' % (NUMBER, OPERAND, POINTER)
 ALIGN = r', align \d+'
 CUTS = {  # function, a generic one at each type -> to how many bits it cuts 64
     # a length or a sum of lengths that is at most 65,535
-    'master_lent::lent::look_frame': '16', 'master_lent::lent::look_write_read': '16',
     'master_call::frame::read_step': '16', 'master_call::frame::write_step': '16', 'master_call::transaction::transaction_step': '16',
     'master_call::write_read::write_read_step': '16', 'slave_step::step::step_of': '16',
     # the library's `try_from`, which asks first whether it fits
@@ -30,7 +29,7 @@ CUTS = {  # function, a generic one at each type -> to how many bits it cuts 64
     # a divider that is at most 4095
     'timing::timing::timing': '16', 'speed_window::fastest::fastest': '16',
     # parts of the number that is handed to C: an error, a value; a register's number, a word, a byte's place
-    'access::ending::ending_in': '8 16', 'asked::Asked::need': '8 16 32', 'call::payload::number': '32',
+    'access::ending::ending_in': '8 16', 'asked::NeedFromAsked::from': '8 16 32', 'asked::Asked::shown': '32',
 }
 
 FORMS = [(kind, re.compile(pattern)) for kind, pattern in [
