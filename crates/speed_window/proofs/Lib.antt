@@ -1,3 +1,4 @@
+pub mod ProductLaws
 pub mod PreferredLaws
 pub mod PairLaws
 pub mod LimitLaws
