@@ -1,7 +1,7 @@
 -- Laws of the errors that a call can meet.
 -- Assumes nothing.
 use Prim.Native.Nat.{ℕ, ◌<◌, ◌≤◌}
-use mathlib.Core.Path.{◌≡◌, refl, sym, ap, ◌∙◌, subst}
+use mathlib.Core.Path.{◌≡◌, refl, sym, ap, ap₂, ◌∙◌, subst}
 use mathlib.Core.Bool.{Bool, true, false, cond, not, ◌&&◌, ◌||◌, true≢false, and-false}
 use native.Mathlib.Omega.{arith}
 use lib.Dec.{eqb}
@@ -18,7 +18,7 @@ use Rattle.access.specs.declared.ending.Failure.{Failure}
 use Rattle.access.specs.Endings.{error_number, flagged, failure_of, returned_both, ending_of}
 use Rattle.access.specs.Endings as access
 use Rattle.access.proofs.Choice.{first_true, second_true, both_true}
-use Rattle.access.proofs.Compared.{itself}
+use Rattle.access.proofs.Compared.{itself, turned}
 use Rattle.access.proofs.EndingLaws.{small_told, small_number}
 use Rattle.errors.specs.Classes.{error_of, decided}
 use Rattle.errors.specs.Met.{same_failure, unchecked, is_met, has_failed}
@@ -99,8 +99,22 @@ met_number chip nack n v x h = go (eqb n 0) refl
     go true z q = let m = eqb-true n 0 z in omega (arith, m)
     go false z q = small_number n h (met_small chip nack (flagged (access.error_of n) x) q)
 
+-- an error that no check finds, by its number
+pub unchecked_told : (nack : Bool) (n : ℕ) → n < 256 → eqb n 4 || (nack && eqb n 2) ≡ not (eqb n 0) && unchecked nack (access.error_of n)
+unchecked_told nack n h =
+    ap₂ (λ (x y : Bool). x || (nack && y)) (by_number 4 (omega arith) (omega arith)) (by_number 2 (omega arith) (omega arith))
+    ∙ one (not (eqb n 0)) (eqb (error_number (access.error_of n)) 4) (eqb (error_number (access.error_of n)) 2) nack
+  where
+    by_number : (k : ℕ) → 0 < k → k ≤ 6 → eqb n k ≡ not (eqb n 0) && eqb (error_number (access.error_of n)) k
+    by_number k a l = turned n k ∙ small_told k n a l h ∙ ap (λ (b : Bool). not (eqb n 0) && b) (turned k (error_number (access.error_of n)))
+
+    one : (b x y m : Bool) → (b && x) || (m && (b && y)) ≡ b && (x || (m && y))
+    one true x y m = refl
+    one false x y true = refl
+    one false x y false = refl
+
 -- an error that can be met, by what a check finds in the extra word
-failed_told : (chip : Chip) (nack : Bool) (n v x : ℕ) → n < 256 → (c : Option Failure) → c ≡ error_of chip nack x
+pub failed_told : (chip : Chip) (nack : Bool) (n v x : ℕ) → n < 256 → (c : Option Failure) → c ≡ error_of chip nack x
     → decided c (λ found. eqb (error_number found.error) n && eqb found.flags x) (eqb x 0 && (not (eqb n 0) && unchecked nack (access.error_of n))) ≡ has_failed chip nack (ending_of n v x)
 unfolding is_met
 failed_told chip nack n v x h c e = go (eqb n 0) refl c (subst (λ (q : Option Failure). decided q (Finds x) (Unit {0})) (sym e) (finds chip nack x)) ∙ rest (eqb n 0)
