@@ -5,3 +5,4 @@ pub mod TallyLaws
 pub mod SearchLaws
 pub mod SumLaws
 pub mod FoundLaws
+pub mod AnswerLaws
