@@ -5,16 +5,27 @@ use mathlib.Core.Bool.{Bool, true, false, cond}
 use mathlib.Core.List.{List, [], ◌∷◌, ◌++◌, append_assoc}
 use Prim.Native.Nat.{ℕ, zero, suc, ◌+◌, ◌*◌, ◌<◌, ◌≤◌}
 use native.Mathlib.Nat.{not-suc-le-zero, le_of_suc-le-suc}
-use native.Mathlib.Numerals.{add-one}
+use native.Mathlib.Numerals.{add-one, add-two, add-three}
 use native.Mathlib.Omega.{arith}
 use borrow.Author.Tests.{ltb-true, ltb-false}
 use lib.Dec.{ltb}
-use lib.ListN.{length, get_or, take, length-take}
+use lib.ListN.{length, get_or, take, set, length-take}
 use Rattle.operations.specs.declared.operation.Direction.{Direction}
 use Rattle.operations.specs.declared.operation.Direction.TheVariants.{Write, Read}
 use Rattle.operations.specs.declared.operation.Operation.{Operation}
 use Rattle.operations.specs.Operations.{shaped}
 use Rattle.operation_bytes.specs.Encoded.{number_of, bytes_of, encoded, count_of, first257}
+
+-- three bytes that are set one after the other are the last three of what is taken past them
+lays : (l : List ℕ) (n a b c : ℕ) → suc (suc n) < length l → take (suc (suc (suc n))) (set (set (set l n a) (suc n) b) (suc (suc n)) c) ≡ take n l ++ (a ∷ b ∷ c ∷ [])
+lays [] n a b c h = absurd (not-suc-le-zero h)
+lays (x ∷ []) zero a b c h = absurd (not-suc-le-zero (le_of_suc-le-suc h))
+lays (x ∷ y ∷ []) zero a b c h = absurd (not-suc-le-zero (le_of_suc-le-suc (le_of_suc-le-suc h)))
+lays (x ∷ y ∷ z ∷ l) zero a b c h = refl
+lays (x ∷ l) (suc n) a b c h = ap {B = List ℕ} (λ r. x ∷ r) (lays l n a b c (le_of_suc-le-suc h))
+
+pub laid : (l : List ℕ) (n a b c : ℕ) → n + 2 < length l → take (n + 3) (set (set (set l n a) (n + 1) b) (n + 2) c) ≡ take n l ++ (a ∷ b ∷ c ∷ [])
+laid l n a b c h = rw (add-three, add-one, add-two) (lays l n a b c (rw add-two at h))
 
 -- the bytes of one operation more
 one_more : (os : List Operation) (i : ℕ) (d : Operation) → i < length os → encoded (take (suc i) os) ≡ encoded (take i os) ++ bytes_of (get_or os i d)
