@@ -2,9 +2,12 @@
 -- Assumes nothing.
 use Prim.Native.Nat.{ℕ, ◌<◌}
 use mathlib.Core.Path.{◌≡◌, refl}
+use mathlib.Core.Bool.{false}
 use lib.Dec.{eqb, ltb}
-use Rattle.stage_numbers.specs.SlaveStage.{stopf_for_number, stopf_for_of, stopf_stage_number, stopf_stage_of, stale_stage_number, stale_stage_of, arm_stage_number, arm_stage_of, match_stage_number, match_stage_of, half_number, half_of, error_stage_number, error_stage_of, abort_stage_number, abort_stage_of}
+use Rattle.slave.specs.declared.stage.Stage.TheVariants as stage
+use Rattle.stage_numbers.specs.SlaveStage.{stopf_for_number, stopf_for_of, stopf_stage_number, stopf_stage_of, stale_stage_number, stale_stage_of, arm_stage_number, arm_stage_of, match_stage_number, match_stage_of, half_number, half_of, error_stage_number, error_stage_of, abort_stage_number, abort_stage_of, stage_of, is_stage}
 use Rattle.access.proofs.Bytes.{count}
+use Rattle.access.proofs.Compared.{turned}
 
 pub stopf_for_range : (n : ℕ) → n < 256 → eqb (stopf_for_number (stopf_for_of n)) n ≡ ltb n 2
 stopf_for_range = count stopf_for_number stopf_for_of 2 refl
@@ -29,3 +32,11 @@ error_stage_range = count error_stage_number error_stage_of 2 refl
 
 pub abort_stage_range : (n : ℕ) → n < 256 → eqb (abort_stage_number (abort_stage_of n)) n ≡ ltb n 5
 abort_stage_range = count abort_stage_number abort_stage_of 5 refl
+
+beyond : (g w p : ℕ) → eqb g 0 ≡ false → eqb g 1 ≡ false → eqb g 2 ≡ false → eqb g 3 ≡ false → eqb g 4 ≡ false → eqb g 5 ≡ false → eqb g 6 ≡ false → eqb g 7 ≡ false → eqb g 8 ≡ false → eqb g 9 ≡ false → stage_of g w p ≡ stage.Ended
+beyond g w p e0 e1 e2 e3 e4 e5 e6 e7 e8 e9 = rw (e0, e1, e2, e3, e4, e5, e6, e7, e8, e9)
+
+-- no stage is of another group
+pub no_stage : (g w p : ℕ) → eqb g 0 ≡ false → eqb g 1 ≡ false → eqb g 2 ≡ false → eqb g 3 ≡ false → eqb g 4 ≡ false → eqb g 5 ≡ false → eqb g 6 ≡ false → eqb g 7 ≡ false → eqb g 8 ≡ false → eqb g 9 ≡ false → eqb g 10 ≡ false → false ≡ is_stage g w p
+unfolding is_stage
+no_stage g w p e0 e1 e2 e3 e4 e5 e6 e7 e8 e9 e10 = rw (beyond g w p e0 e1 e2 e3 e4 e5 e6 e7 e8 e9, turned 10 g, e10)
