@@ -208,20 +208,22 @@ module _ (l : List ℕ) (last k ahead : ℕ) (p : Place) (a : Ahead l last k ahe
   ahead_flawed f z = absurd (true≢false (sym z ∙ sym a.sound ∙ f))
 
 -- one run more is passed
-pub ahead_next : (l : List ℕ) (last k passed : ℕ) (p : Place) → passed < k → Ahead l last k (k - passed) p → p.at ≤ last → (q : Place) → Next l p q → Ahead l last k (k - (passed + 1)) q
-ahead_next l last k passed p n a h q x =
+pub ahead_next : (l : List ℕ) (last k ahead : ℕ) (p : Place) → 0 < ahead → Ahead l last k ahead p → p.at ≤ last → (q : Place) → Next l p q → Ahead l last k (ahead - 1) q
+ahead_next l last k ahead p n a h q x =
     record {
       place = reached_next l last p q (starts_at l last p a.place h) x;
       sound = x.sound ∙ a.sound;
-      run =
-          λ z.
-          run_next l p q x (a.sound ∙ z) (k - (passed + 1)) ∙ ap (run_from p.written p.read (runs_after l p.at)) less ∙ a.run z;
+      run = λ z. run_next l p q x (a.sound ∙ z) (ahead - 1) ∙ ap (run_from p.written p.read (runs_after l p.at)) less ∙ a.run z;
       written = λ z. written_next l p q x (a.sound ∙ z) ∙ a.written z;
       read = λ z. read_next l p q x (a.sound ∙ z) ∙ a.read z;
     }
   where
-    less : suc (k - (passed + 1)) ≡ k - passed
+    less : suc (ahead - 1) ≡ ahead
     less = omega arith
+
+-- the same by those that are passed of k
+pub ahead_passed : (l : List ℕ) (last k passed : ℕ) (p : Place) → passed < k → Ahead l last k (k - passed) p → p.at ≤ last → (q : Place) → Next l p q → Ahead l last k (k - (passed + 1)) q
+ahead_passed l last k passed p n a h q x = subst (λ (j : ℕ). Ahead l last k j q) (omega arith) (ahead_next l last k (k - passed) p (omega arith) a h q x)
 
 pub none_ahead : (l : List ℕ) (last k passed : ℕ) (p : Place) → k ≤ passed → Ahead l last k (k - passed) p → Ahead l last k 0 p
 none_ahead l last k passed p h = subst (λ (j : ℕ). Ahead l last k j p) (omega arith)
