@@ -10,6 +10,7 @@ use mathlib.Core.Bool.{Bool, true, false, cond, not, ◌&&◌, true≢false}
 use mathlib.Core.List.{List}
 use native.Mathlib.Omega.{arith}
 use lib.Dec.{eqb, leb, ltb}
+use lib.ListN.{length}
 use borrow.Author.Tests.{eqb-true, le-leb, lt-leb}
 use Rattle.access.specs.declared.ending.Failure.{Failure}
 use Rattle.registers.specs.declared.chip.Chip.{Chip}
@@ -22,8 +23,8 @@ use Rattle.access.specs.Machine.{is_end}
 use Rattle.access.proofs.Choice.{first_true, second_true, both_true}
 use Rattle.block.specs.declared.fields.Fields.{Fields}
 use Rattle.block.specs.Fields.{same_fields}
-use Rattle.block.specs.Bytes32.{bytes_of}
-use Rattle.block.proofs.Codec.{same_said}
+use Rattle.block.specs.Bytes32.{fields_of, bytes_of, Bytes}
+use Rattle.block.proofs.Codec.{same_said, bytes_back}
 use Rattle.images.specs.Numbers.{chip_of, is_chip}
 use Rattle.images.specs.SlaveImage.{kind_of, is_kind, slave_of, slave_in, unused_empty, is_call}
 use Rattle.images.proofs.SlaveImageRanges.{found, no_ending, no_stage, no_call}
@@ -61,6 +62,11 @@ module _ (f : Fields) (size : ℕ) where
 
   fields_same : is_call f ≡ true → is_ending f.error f.value f.extra ≡ true → fields_at (setting_in (slave_of f) size) (slave_of f).progress f.stage f.what f.phase ≡ f
   fields_same c e = same_said _ f (same_call ∙ both_true c e)
+
+pub block_told : (b : List ℕ) (size : ℕ) → length b ≡ 32 → Bytes b → is_call (fields_of b) ≡ true → is_ending (fields_of b).error (fields_of b).value (fields_of b).extra ≡ true
+    → b ≡ block_at (setting_in (slave_of (fields_of b)) size) (slave_of (fields_of b)).progress (fields_of b).stage (fields_of b).what (fields_of b).phase
+unfolding block_at
+block_told b size n bytes c e = sym (bytes_back b n bytes) ∙ ap bytes_of (sym (fields_same (fields_of b) size c e))
 
 -- ---- endings by their numbers
 
