@@ -3,11 +3,15 @@
 use mathlib.Core.Path.{◌≡◌, refl}
 use mathlib.Core.Bool.{Bool, true, false, cond, not}
 use mathlib.Core.List.{List}
+use mathlib.Core.Option.{none}
 use Prim.Native.Nat.{ℕ}
+use lib.ListN.{length}
+use borrow.Author.Tests.{ne_eqb}
 use Rattle.std.specs.Prelude.{Some, None, Option}
 use Rattle.access.specs.declared.ending.Error.TheVariants.{InvalidState}
 use Rattle.access.specs.declared.need.Need.{Need}
 use Rattle.access.specs.Machine.{is_end}
+use Rattle.block.specs.Bytes32.{block_size}
 use Rattle.images.specs.SlaveImage.{kind_entry}
 use Rattle.slave.specs.declared.state.State.{State}
 use Rattle.slave.specs.declared.state.Kind.{Kind}
@@ -16,7 +20,7 @@ use Rattle.slave_step.specs.Held.{held_in, fitting_in, Refuses, StepsFrom}
 use Rattle.call.specs.CallOn.{state_in, on_block}
 use Rattle.call.specs.OnBlock.{OnBlock, Does, owed_by, moved_by, step_on, refused}
 use Rattle.call.proofs.CallLaws.{held_if}
-use Rattle.calls.specs.Response.{fitting, response_call}
+use Rattle.calls.specs.Response.{slave_held, fitting, response_on, response_call}
 
 module _ (size : ℕ) (x : Kind) (b : List ℕ) (a : ℕ) (after : List ℕ) (n : Need) where
   abbrev on : OnBlock
@@ -49,3 +53,9 @@ module _ (size : ℕ) (x : Kind) (b : List ℕ) (a : ℕ) (after : List ℕ) (n 
 pub same_fitting : (size : ℕ) (f : Option State) → state_in (fitting_in size f) ≡ fitting size f
 same_fitting size None = refl
 same_fitting size (Some s) = held_if (fits_lent s size) s
+
+-- ---- a block of another length holds nothing
+
+pub held_short : (size entry : ℕ) (b : List ℕ) → (length b ≡ block_size → ⊥) → (response_on size entry).held b ≡ none
+unfolding slave_held
+held_short size entry b e = rw (ne_eqb (length b) block_size e)

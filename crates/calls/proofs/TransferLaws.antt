@@ -5,12 +5,15 @@ use mathlib.Core.Bool.{Bool, true, false, cond, not}
 use mathlib.Core.List.{List, []}
 use mathlib.Core.Option.{Option, none, some}
 use Prim.Native.Nat.{ℕ}
+use lib.ListN.{length}
+use borrow.Author.Tests.{ne_eqb}
 use Rattle.std.specs.Prelude as prelude
 use Rattle.std.specs.Prelude.{Some, None, Result}
 use Rattle.access.specs.declared.ending.Error.{Error}
 use Rattle.access.specs.declared.ending.Error.TheVariants.{InvalidState}
 use Rattle.access.specs.declared.need.Need.{Need}
 use Rattle.access.specs.Machine.{is_end}
+use Rattle.block.specs.Bytes32.{block_size}
 use Rattle.master.specs.declared.state.State.{State}
 use Rattle.images.specs.Numbers.{transaction_entry, write_read_entry, write_entry, read_entry}
 use Rattle.master.specs.declared.call.Call.{Call}
@@ -26,7 +29,7 @@ use Rattle.call.specs.OnBlock.{OnBlock, Does, owed_by, moved_by, step_on, refuse
 use Rattle.call.proofs.CallLaws.{held_if}
 use Rattle.calls.specs.declared.transfer.Partner.{Partner}
 use Rattle.calls.specs.declared.transfer.Framed.{Framed}
-use Rattle.calls.specs.Transfer.{fitting, first_state, transfer_call, called, framed, transaction_call, write_read_call, write_call, read_call}
+use Rattle.calls.specs.Transfer.{master_held, fitting, transfer_on, first_state, transfer_call, called, framed, transaction_call, write_read_call, write_call, read_call}
 
 module _ {Args : Type 0} (call_of : Args → Call) (list : List ℕ) (written room entry : ℕ) where
   abbrev on : OnBlock
@@ -107,3 +110,9 @@ module _ (b : List ℕ) (a : ℕ) (after : List ℕ) (n : Need) where
 pub same_fitting : (list : List ℕ) (written room : ℕ) (f : prelude.Option State) → state_in (fitting_in list written room f) ≡ fitting list written room f
 same_fitting list written room None = refl
 same_fitting list written room (Some s) = held_if (fits_lent s list written room) s
+
+-- ---- a block of another length holds nothing
+
+pub held_short : (list : List ℕ) (written room entry : ℕ) (b : List ℕ) → (length b ≡ block_size → ⊥) → (transfer_on list written room entry).held b ≡ none
+unfolding master_held
+held_short list written room entry b e = rw (ne_eqb (length b) block_size e)
