@@ -9,7 +9,7 @@ ghost use Rattle.access.specs.Endings.{Ending, done, failed};
 ghost use Rattle.access.specs.Machine.{filled};
 ghost use Rattle.access.specs.Numbers.{next_number, HoldsWords};
 ghost use Rattle.images.specs.EndImage.{KeepsEnd};
-ghost use Rattle.asked.specs.Asked.{need_number, NeedHoldsWords};
+ghost use Rattle.asked.specs.Asked.{need_number, need_of, NeedHoldsWords};
 
 use access::{Ending, Error, Need, ending, lent};
 use images::end_image;
@@ -191,22 +191,28 @@ impl From<Need> for Asked {
     }
 }
 
+// What a number asks for; of any number, not of one that a function made alone.
+pub fn need_of(number: u64) -> Need
+    ensures { result ≡ need_of number }
+{
+    let code = (number / 256 % 256) as u8;
+    let value = (number / 65536 % 65536) as u16;
+    let place = (number / 65536 % 4294967296) as u32;
+    match number % 256 {
+        0 => Need::End(ending::ending_in(number)),
+        1 => Need::Read(code.into()),
+        2 => Need::Write(code.into(), value),
+        3 => Need::Clock,
+        SEND => Need::Send(place),
+        KEEP => Need::Keep(place),
+        _ => Need::Drop,
+    }
+}
+
 impl From<Asked> for Need {
     ghost from_gives = { λ a n. n ≡ a };
 
     fn from(asked: Asked) -> Need {
-        let number = asked.number;
-        let code = (number / 256 % 256) as u8;
-        let value = (number / 65536 % 65536) as u16;
-        let place = (number / 65536 % 4294967296) as u32;
-        match number % 256 {
-            0 => Need::End(ending::ending_in(number)),
-            1 => Need::Read(code.into()),
-            2 => Need::Write(code.into(), value),
-            3 => Need::Clock,
-            SEND => Need::Send(place),
-            KEEP => Need::Keep(place),
-            _ => Need::Drop,
-        }
+        need_of(asked.number)
     }
 }

@@ -1,5 +1,5 @@
 // The 32 bytes of a block, numbers low byte first.
-ghost use Rattle.std.specs.Prelude.{◌≡◌, ◌+◌, ◌≤◌, ℕ, List};
+ghost use Rattle.std.specs.Prelude.{◌≡◌, ◌+◌, ◌≤◌, ℕ, List, length};
 ghost use Rattle.block.specs.Bytes32.{word_at, with_word, long_at, with_long, at_phase, at_stage, fields_of, bytes_of, block_size};
 
 use crate::at;
@@ -8,16 +8,32 @@ use crate::fields::Fields;
 // The length of a block, in every call.
 pub const BLOCK_SIZE: usize = 32;
 
+// Two bytes from a place on, low byte first.
+pub fn word_at(bytes: &[u8], at: usize) -> u16
+    requires { at + 2 ≤ length bytes.now }
+    ensures { result ≡ word_at bytes.now at }
+{
+    u16::from_le_bytes([bytes[at], bytes[at + 1]])
+}
+
+// Four bytes from a place on.
+pub fn long_at(bytes: &[u8], at: usize) -> u32
+    requires { at + 4 ≤ length bytes.now }
+    ensures { result ≡ long_at bytes.now at }
+{
+    u32::from_le_bytes([bytes[at], bytes[at + 1], bytes[at + 2], bytes[at + 3]])
+}
+
 // A block as its caller lends it: 32 bytes.
 pub trait Block {
     ghost bytes: { Self → List ℕ };
 
-    // Two bytes from a place on, low byte first.
+    // `word_at` of the block.
     fn word(&self, at: usize) -> u16
         requires { at + 2 ≤ block_size }
         ensures { result ≡ word_at (bytes self.now) at };
 
-    // Four bytes from a place on.
+    // `long_at` of the block.
     fn long(&self, at: usize) -> u32
         requires { at + 4 ≤ block_size }
         ensures { result ≡ long_at (bytes self.now) at };
@@ -43,11 +59,11 @@ impl Block for [u8; 32] {
     ghost bytes = { λ block. block };
 
     fn word(&self, at: usize) -> u16 {
-        u16::from_le_bytes([self[at], self[at + 1]])
+        word_at(self, at)
     }
 
     fn long(&self, at: usize) -> u32 {
-        u32::from_le_bytes([self[at], self[at + 1], self[at + 2], self[at + 3]])
+        long_at(self, at)
     }
 
     fn put_word(&mut self, at: usize, word: u16) {

@@ -1,1 +1,2 @@
 pub mod EncodedLaws
+pub mod FilledLaws

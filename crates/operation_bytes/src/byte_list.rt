@@ -6,18 +6,26 @@ use operations::Operation;
 use std::marker::Model;
 
 // A list of bytes in memory of a fixed size. No `ArrayVec`: the library would then rest on the statements of a ported crate.
-#[derive(Drop)]
+#[derive(Clone, Copy)]
 pub struct ByteList {
     bytes: [u8; 771],
     count: usize,
 }
 
 impl Model for ByteList {
+    ghost use Rattle.std.specs.Prelude.{◌≡◌, refl, ℕ, List, length, take};
+    ghost use Rattle.operation_bytes.specs.Filled.{filled, IsFilled};
+
     ghost Value = { List ℕ };
 
     ghost view = { λ l. take l.count l.bytes };
 
-    ghost invariant = { λ l. l.count ≤ 771 };
+    // Behind the list all is 0, so the list tells the fields, and the struct can be copied.
+    ghost invariant = { λ l. IsFilled l.count l.bytes };
+
+    ghost inverse = { λ v. record { bytes = filled v; count = length v } };
+
+    ghost inverse_ok = { λ l h. rw (h.2, h.1) refl };
 }
 
 // The direction's number, then the length, low byte first.
