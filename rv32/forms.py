@@ -2,7 +2,7 @@
 
 A line that is plain arithmetic on numbers may be added without more ado; one that makes, compares or hands on pointers has to be thought of in pointers.py too.
 That a cut loses nothing is proved of the source, and the kit's text has no mark of it. So 64 bits, which lengths have, are cut (`trunc`) in the functions of CUTS alone; to
-the target's 32 bits in one, and there it is no length."""
+the target's 32 bits in two, and there it is no length."""
 import re
 import sys
 from functools import lru_cache
@@ -29,7 +29,7 @@ CUTS = {  # function, a generic one at each type -> to how many bits it cuts 64
     # a divider that is at most 4095
     'timing::timing::timing': '16', 'speed_window::fastest::fastest': '16',
     # parts of the number that is handed to C: an error, a value; a register's number, a word, a byte's place
-    'access::ending::ending_in': '8 16', 'asked::NeedFromAsked::from': '8 16 32', 'asked::Asked::shown': '32',
+    'access::ending::ending_in': '8 16', 'asked::need_of': '8 16 32', 'asked::Asked::shown': '32',
 }
 
 FORMS = [(kind, re.compile(pattern)) for kind, pattern in [
