@@ -68,12 +68,9 @@ fn steps<'a>(entry: Entry, begun: u64, accesses: &'a [u8], lent: &mut Lent) -> O
 
 // What stands behind the last of the accesses, where the library says the same. A refused begin has left the block alone; after
 // any other end a step answers 15.
-fn finish<'a>(
-    call: Call,
-    is_first: bool,
-    reached: Reached<'a>,
-    lent: &mut Lent,
-) -> Option<&'a [u8]> {
+fn finish<'a>(call: Call, is_first: bool, reached: Reached<'a>, lent: &mut Lent) -> Option<&'a [u8]>
+    ensures { IfSome result (λ l. length l.now ≤ length reached.entry.left.now) }
+{
     let (code, behind) = reached.left.split_first()?;
     if let Some(access) = Access::owed(*code) {
         return (reached.next == access.number()).then_some(behind);
