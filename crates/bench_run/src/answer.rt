@@ -27,6 +27,7 @@ pub fn answer(text: &mut Text, input: &[u8], room: Room)
     ensures puts { Puts text.old.out.now text.old.at (printed_of (input_of input.now) room.entry.read.now) text.new.at text.new.out.now }
     ensures upper_bound { text.new.at ≤ length text.old.out.now }
     ensures same_length { length text.new.out.now ≡ length text.old.out.now }
+    ensures same_reference { text.new.out.ghost_name ≡ text.old.out.ghost_name }
 {
     let Room {
         list,

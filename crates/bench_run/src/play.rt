@@ -47,6 +47,7 @@ fn put_access(text: &mut Text, next: Next, answer: u16)
     requires { text.old.at + 14 ≤ length text.old.out.now }
     ensures puts { Puts text.old.out.now text.old.at (access_text next answer) text.new.at text.new.out.now }
     ensures upper_bound { text.new.at ≤ text.old.at + 14 }
+    ensures same_reference { text.new.out.ghost_name ≡ text.old.out.ghost_name }
 {
     match next {
         Next::Read(register) => text.put_read(register, answer),
@@ -70,6 +71,7 @@ fn put_ending(text: &mut Text, next: Next, used: u32)
     requires { text.old.at + 21 ≤ length text.old.out.now }
     ensures puts { Puts text.old.out.now text.old.at (ending_text next used) text.new.at text.new.out.now }
     ensures upper_bound { text.new.at ≤ text.old.at + 21 }
+    ensures same_reference { text.new.out.ghost_name ≡ text.old.out.ghost_name }
 {
     match next {
         Next::Read(_) => text.put_open(used),
@@ -84,6 +86,7 @@ fn put_last(text: &mut Text, next: Next, bytes: &[u8], used: u32)
     requires { text.old.at + 24 + (length bytes.now + length bytes.now) ≤ length text.old.out.now }
     ensures puts { Puts text.old.out.now text.old.at (finish_text next bytes.now used) text.new.at text.new.out.now }
     ensures upper_bound { text.new.at ≤ length text.old.out.now }
+    ensures same_reference { text.new.out.ghost_name ≡ text.old.out.ghost_name }
 {
     text.put_arrived(bytes);
     put_ending(text, next, used);
@@ -94,6 +97,7 @@ fn finish(text: &mut Text, next: Next, read: &[u8], arrived: usize, used: usize)
     requires arrived_in_bounds { text.old.at + 24 + (arrived + arrived) ≤ length text.old.out.now }
     ensures puts { Puts text.old.out.now text.old.at (finish_text next (take arrived read.now) used) text.new.at text.new.out.now }
     ensures upper_bound { text.new.at ≤ length text.old.out.now }
+    ensures same_reference { text.new.out.ghost_name ≡ text.old.out.ghost_name }
 {
     put_last(text, next, &read[..arrived.min(read.len())], used as u32);
 }
@@ -104,6 +108,13 @@ pub fn play(chip: u8, address: u8, lent: &mut Lent, answers: &[u16], text: &mut 
     requires in_bounds { text.old.at + 262168 ≤ length text.old.out.now }
     ensures puts { Puts text.old.out.now text.old.at (play_from most_turns lent.old.list.now lent.old.written.now answers.now (transaction_begin lent.old.block.now chip address lent.old.list.now lent.old.written.now lent.old.read.now) 0 0) text.new.at text.new.out.now }
     ensures upper_bound { text.new.at ≤ length text.old.out.now }
+    ensures same_reference { text.new.out.ghost_name ≡ text.old.out.ghost_name }
+    ensures list_kept { lent.new.list.now ≡ lent.old.list.now }
+    ensures written_kept { lent.new.written.now ≡ lent.old.written.now }
+    ensures same_block { lent.new.block.ghost_name ≡ lent.old.block.ghost_name }
+    ensures same_read { lent.new.read.ghost_name ≡ lent.old.read.ghost_name }
+    ensures same_block_length { length lent.new.block.now ≡ length lent.old.block.now }
+    ensures same_read_length { length lent.new.read.now ≡ length lent.old.read.now }
 {
     let first = turn::begin(lent, chip, address);
     go(first, lent, answers, text);
@@ -114,6 +125,13 @@ fn go(first: Next, lent: &mut Lent, answers: &[u16], text: &mut Text)
     requires in_bounds { text.old.at + 262168 ≤ length text.old.out.now }
     ensures puts { Puts text.old.out.now text.old.at (play_from most_turns lent.old.list.now lent.old.written.now answers.now (left first lent.old.block.now lent.old.read.now) 0 0) text.new.at text.new.out.now }
     ensures upper_bound { text.new.at ≤ length text.old.out.now }
+    ensures same_reference { text.new.out.ghost_name ≡ text.old.out.ghost_name }
+    ensures list_kept { lent.new.list.now ≡ lent.old.list.now }
+    ensures written_kept { lent.new.written.now ≡ lent.old.written.now }
+    ensures same_block { lent.new.block.ghost_name ≡ lent.old.block.ghost_name }
+    ensures same_read { lent.new.read.ghost_name ≡ lent.old.read.ghost_name }
+    ensures same_block_length { length lent.new.block.now ≡ length lent.old.block.now }
+    ensures same_read_length { length lent.new.read.now ≡ length lent.old.read.now }
 {
     let mut next = first;
     let mut used: usize = 0;

@@ -17,6 +17,7 @@ impl Text<'_> {
         requires { self.old.at + length bytes.now ≤ length self.old.out.now }
         ensures puts { Puts self.old.out.now self.old.at bytes.now self.new.at self.new.out.now }
         ensures same_length { length self.new.out.now ≡ length self.old.out.now }
+        ensures same_reference { self.new.out.ghost_name ≡ self.old.out.ghost_name }
     {
         let end = self.at + bytes.len();
         self.out[self.at..end].copy_from_slice(bytes);
@@ -26,7 +27,8 @@ impl Text<'_> {
     // A word as four hex digits.
     pub fn put_word(&mut self, value: u16)
         requires { self.old.at + 4 ≤ length self.old.out.now }
-        ensures { Puts self.old.out.now self.old.at (word_text value) self.new.at self.new.out.now }
+        ensures puts { Puts self.old.out.now self.old.at (word_text value) self.new.at self.new.out.now }
+        ensures same_reference { self.new.out.ghost_name ≡ self.old.out.ghost_name }
     {
         self.put(&[
             digits::glyph(value / 4096),
@@ -39,7 +41,8 @@ impl Text<'_> {
     // A byte as two hex digits.
     pub fn put_pair(&mut self, value: u8)
         requires { self.old.at + 2 ≤ length self.old.out.now }
-        ensures { Puts self.old.out.now self.old.at (pair_text value) self.new.at self.new.out.now }
+        ensures puts { Puts self.old.out.now self.old.at (pair_text value) self.new.at self.new.out.now }
+        ensures same_reference { self.new.out.ghost_name ≡ self.old.out.ghost_name }
     {
         self.put(&[
             digits::glyph(value as u16 / 16),
@@ -53,6 +56,7 @@ impl Text<'_> {
         ensures puts { Puts self.old.out.now self.old.at (hex_text bytes.now) self.new.at self.new.out.now }
         ensures value { self.new.at ≡ self.old.at + (length bytes.now + length bytes.now) }
         ensures same_length { length self.new.out.now ≡ length self.old.out.now }
+        ensures same_reference { self.new.out.ghost_name ≡ self.old.out.ghost_name }
     {
         for byte in bytes {
             self.put_pair(*byte);
@@ -66,6 +70,7 @@ impl Text<'_> {
         ensures puts { Puts self.old.out.now self.old.at (decimal_text n) self.new.at self.new.out.now }
         ensures upper_bound { self.new.at ≤ self.old.at + 5 }
         ensures same_length { length self.new.out.now ≡ length self.old.out.now }
+        ensures same_reference { self.new.out.ghost_name ≡ self.old.out.ghost_name }
     {
         if n < 10 {
             return self.put(&[decimal_digit(n)]);

@@ -11,6 +11,7 @@ impl Text<'_> {
         requires { self.old.at + 6 ≤ length self.old.out.now }
         ensures puts { Puts self.old.out.now self.old.at (name_text register) self.new.at self.new.out.now }
         ensures upper_bound { self.new.at ≤ self.old.at + 6 }
+        ensures same_reference { self.new.out.ghost_name ≡ self.old.out.ghost_name }
     {
         match register {
             Register::Ctlr1 => self.put(b"CTLR1"),
@@ -28,7 +29,8 @@ impl Text<'_> {
     // A comma, a word and the line feed.
     fn put_value(&mut self, value: u16)
         requires { self.old.at + 6 ≤ length self.old.out.now }
-        ensures { Puts self.old.out.now self.old.at (value_text value) self.new.at self.new.out.now }
+        ensures puts { Puts self.old.out.now self.old.at (value_text value) self.new.at self.new.out.now }
+        ensures same_reference { self.new.out.ghost_name ≡ self.old.out.ghost_name }
     {
         self.put(b",");
         self.put_word(value);
@@ -40,6 +42,7 @@ impl Text<'_> {
         requires { self.old.at + 14 ≤ length self.old.out.now }
         ensures puts { Puts self.old.out.now self.old.at (read_text register answer) self.new.at self.new.out.now }
         ensures upper_bound { self.new.at ≤ self.old.at + 14 }
+        ensures same_reference { self.new.out.ghost_name ≡ self.old.out.ghost_name }
     {
         self.put(b"r,");
         self.put_name(register);
@@ -50,6 +53,7 @@ impl Text<'_> {
         requires { self.old.at + 14 ≤ length self.old.out.now }
         ensures puts { Puts self.old.out.now self.old.at (write_text register value) self.new.at self.new.out.now }
         ensures upper_bound { self.new.at ≤ self.old.at + 14 }
+        ensures same_reference { self.new.out.ghost_name ≡ self.old.out.ghost_name }
     {
         self.put(b"w,");
         self.put_name(register);
@@ -61,6 +65,7 @@ impl Text<'_> {
         requires { self.old.at + 14 ≤ length self.old.out.now }
         ensures puts { Puts self.old.out.now self.old.at (clock_text answer) self.new.at self.new.out.now }
         ensures upper_bound { self.new.at ≤ self.old.at + 14 }
+        ensures same_reference { self.new.out.ghost_name ≡ self.old.out.ghost_name }
     {
         self.put(b"c,clock");
         self.put_value(answer);
@@ -72,6 +77,7 @@ impl Text<'_> {
         ensures puts { Puts self.old.out.now self.old.at (arrived_text bytes.now) self.new.at self.new.out.now }
         ensures value { self.new.at ≡ self.old.at + 3 + (length bytes.now + length bytes.now) }
         ensures same_length { length self.new.out.now ≡ length self.old.out.now }
+        ensures same_reference { self.new.out.ghost_name ≡ self.old.out.ghost_name }
     {
         self.put(b"d,");
         self.put_hex(bytes);
@@ -83,6 +89,7 @@ impl Text<'_> {
         requires { self.old.at + 12 ≤ length self.old.out.now }
         ensures puts { Puts self.old.out.now self.old.at (used_text used flags) self.new.at self.new.out.now }
         ensures upper_bound { self.new.at ≤ self.old.at + 12 }
+        ensures same_reference { self.new.out.ghost_name ≡ self.old.out.ghost_name }
     {
         self.put(b",");
         self.put_decimal(used);
@@ -93,6 +100,7 @@ impl Text<'_> {
         requires { self.old.at + 21 ≤ length self.old.out.now }
         ensures puts { Puts self.old.out.now self.old.at (end_text number used flags) self.new.at self.new.out.now }
         ensures upper_bound { self.new.at ≤ self.old.at + 21 }
+        ensures same_reference { self.new.out.ghost_name ≡ self.old.out.ghost_name }
     {
         self.put(b"end,");
         self.put_decimal(number as u32);
@@ -103,6 +111,7 @@ impl Text<'_> {
         requires { self.old.at + 20 ≤ length self.old.out.now }
         ensures puts { Puts self.old.out.now self.old.at (open_text used) self.new.at self.new.out.now }
         ensures upper_bound { self.new.at ≤ self.old.at + 20 }
+        ensures same_reference { self.new.out.ghost_name ≡ self.old.out.ghost_name }
     {
         self.put(b"end,open");
         self.put_used(used, 0);
@@ -112,6 +121,7 @@ impl Text<'_> {
         requires { self.old.at + 10 ≤ length self.old.out.now }
         ensures puts { Puts self.old.out.now self.old.at (bad_text line) self.new.at self.new.out.now }
         ensures upper_bound { self.new.at ≤ self.old.at + 10 }
+        ensures same_reference { self.new.out.ghost_name ≡ self.old.out.ghost_name }
     {
         self.put(b"bad,");
         self.put_decimal(line);

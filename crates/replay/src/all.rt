@@ -1,4 +1,6 @@
 // All calls of the sample, one behind the other.
+ghost use Rattle.std.specs.Prelude.{◌≡◌};
+
 use crate::library::Lent;
 use crate::play::Played;
 use crate::{play, stored};
@@ -66,7 +68,11 @@ pub struct Room<'a> {
 }
 
 // One call, with buffers that are cut to the lengths that it is lent.
-fn one(bytes: &[u8], room: &mut Room) -> Option<Played> {
+fn one(bytes: &[u8], room: &mut Room) -> Option<Played>
+    ensures same_block { room.new.block.ghost_name ≡ room.old.block.ghost_name }
+    ensures same_written { room.new.written.ghost_name ≡ room.old.written.ghost_name }
+    ensures same_read { room.new.read.ghost_name ≡ room.old.read.ghost_name }
+{
     let (call, list, accesses) = stored::parts(bytes)?;
     let block = room.block.get_mut(..call.block_length)?;
     let written = room.written.get_mut(..call.written_length)?;
@@ -84,7 +90,11 @@ fn one(bytes: &[u8], room: &mut Room) -> Option<Played> {
 }
 
 // Calls as long as there are whole ones. (No `for`: where a call begins is told by the length of the one before it.)
-fn calls(sample: &[u8], room: &mut Room) -> Tally {
+fn calls(sample: &[u8], room: &mut Room) -> Tally
+    ensures same_block { room.new.block.ghost_name ≡ room.old.block.ghost_name }
+    ensures same_written { room.new.written.ghost_name ≡ room.old.written.ghost_name }
+    ensures same_read { room.new.read.ghost_name ≡ room.old.read.ghost_name }
+{
     let mut tally = Tally::default();
     let mut left = sample;
     while let Some((call, behind)) = stored::first_call(left) {
@@ -95,7 +105,11 @@ fn calls(sample: &[u8], room: &mut Room) -> Tally {
 }
 
 // The whole sample, behind a mark of 8 bytes and the number of its calls.
-pub fn replay(sample: &[u8], room: &mut Room) -> Tally {
+pub fn replay(sample: &[u8], room: &mut Room) -> Tally
+    ensures same_block { room.new.block.ghost_name ≡ room.old.block.ghost_name }
+    ensures same_written { room.new.written.ghost_name ≡ room.old.written.ghost_name }
+    ensures same_read { room.new.read.ghost_name ≡ room.old.read.ghost_name }
+{
     let Some((front, behind)) = sample.split_first_chunk::<12>() else {
         return Tally::default();
     };

@@ -1,4 +1,6 @@
 // The nine entries of the library by a stored call's entry.
+ghost use Rattle.std.specs.Prelude.{◌≡◌, length};
+
 use crate::stored::{Call, Entry};
 use access::{Words, ending};
 use ch32_i2c::{init, init_slave, response, transfer};
@@ -15,7 +17,14 @@ pub struct Lent<'a> {
 }
 
 // By a `match`, which is plainer than a table of functions: what each is lent differs.
-pub fn begin(call: Call, lent: &mut Lent) -> u64 {
+pub fn begin(call: Call, lent: &mut Lent) -> u64
+    ensures list_kept { lent.new.list.now ≡ lent.old.list.now }
+    ensures written_kept { lent.new.written.now ≡ lent.old.written.now }
+    ensures same_block { lent.new.block.ghost_name ≡ lent.old.block.ghost_name }
+    ensures same_read { lent.new.read.ghost_name ≡ lent.old.read.ghost_name }
+    ensures same_block_length { length lent.new.block.now ≡ length lent.old.block.now }
+    ensures same_read_length { length lent.new.read.now ≡ length lent.old.read.now }
+{
     match call.entry {
         Entry::Init => init::ch32_i2c_init_begin(
             lent.block,
@@ -75,7 +84,14 @@ pub fn begin(call: Call, lent: &mut Lent) -> u64 {
 }
 
 // By a `match`, as above.
-pub fn step(entry: Entry, lent: &mut Lent, answer: u16) -> u64 {
+pub fn step(entry: Entry, lent: &mut Lent, answer: u16) -> u64
+    ensures list_kept { lent.new.list.now ≡ lent.old.list.now }
+    ensures written_kept { lent.new.written.now ≡ lent.old.written.now }
+    ensures same_block { lent.new.block.ghost_name ≡ lent.old.block.ghost_name }
+    ensures same_read { lent.new.read.ghost_name ≡ lent.old.read.ghost_name }
+    ensures same_block_length { length lent.new.block.now ≡ length lent.old.block.now }
+    ensures same_read_length { length lent.new.read.now ≡ length lent.old.read.now }
+{
     match entry {
         Entry::Init => init::ch32_i2c_init_step(lent.block, answer),
         Entry::Transaction => transfer::ch32_i2c_transaction_step(

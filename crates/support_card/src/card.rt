@@ -49,6 +49,7 @@ fn put_line(text: &mut Text, chip: Chip, nack: bool, class: u8)
     requires { text.old.at + 35 ≤ length text.old.out.now }
     ensures puts { Puts text.old.out.now text.old.at (line_text chip nack class) text.new.at text.new.out.now }
     ensures upper_bound { text.new.at ≤ text.old.at + 35 }
+    ensures same_reference { text.new.out.ghost_name ≡ text.old.out.ghost_name }
 {
     text.put(&chip_text(chip));
     text.put(&role_text(nack));
@@ -62,6 +63,7 @@ fn put_side(text: &mut Text, chip: Chip, nack: bool)
     requires { text.old.at + 245 ≤ length text.old.out.now }
     ensures puts { Puts text.old.out.now text.old.at (side_text chip nack) text.new.at text.new.out.now }
     ensures upper_bound { text.new.at ≤ text.old.at + 245 }
+    ensures same_reference { text.new.out.ghost_name ≡ text.old.out.ghost_name }
 {
     let classes = [2, 1, 4, 5, 6, 3, 0];
     for class in &classes {
@@ -73,6 +75,7 @@ fn put_both(text: &mut Text, chip: Chip)
     requires { text.old.at + 490 ≤ length text.old.out.now }
     ensures puts { Puts text.old.out.now text.old.at (both_text chip) text.new.at text.new.out.now }
     ensures upper_bound { text.new.at ≤ text.old.at + 490 }
+    ensures same_reference { text.new.out.ghost_name ≡ text.old.out.ghost_name }
 {
     put_side(text, chip, true);
     put_side(text, chip, false);
@@ -94,6 +97,7 @@ pub fn put_card(text: &mut Text)
     ensures puts { Puts text.old.out.now text.old.at card_text text.new.at text.new.out.now }
     ensures upper_bound { text.new.at ≤ text.old.at + 1995 }
     ensures same_length { length text.new.out.now ≡ length text.old.out.now }
+    ensures same_reference { text.new.out.ghost_name ≡ text.old.out.ghost_name }
 {
     text.put(b"chip      side   class       words\n");
     for chip in &chips() {

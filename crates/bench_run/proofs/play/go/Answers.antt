@@ -23,6 +23,11 @@ loop-turn-preserved c =
     record {
       list_kept = e.list_kept ∙ i.list_kept;
       written_kept = e.written_kept ∙ i.written_kept;
+      same_block = e.same_block ∙ i.same_block;
+      same_read = e.same_read ∙ i.same_read;
+      same_block_length = e.same_block_length ∙ i.same_block_length;
+      same_read_length = e.same_read_length ∙ i.same_read_length;
+      same_reference = c.put_access.ensures.same_reference ∙ i.same_reference;
       going =
           rw next
           (going_on _ _ _ i.going more (sym c.is_end.ensures ∙ c.if-is_end.false) c.asked-taken.ensures.value c.if-answers-used.false c.arriving-arrived.ensures.value c.arriving-arrived.ensures.upper_bound c.answer_at-answer.ensures c.put_access.ensures.puts c.put_access.ensures.upper_bound (same_length c.put_access.ensures.puts)

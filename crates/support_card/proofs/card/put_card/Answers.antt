@@ -14,4 +14,5 @@ loop-chip-preserved c =
       puts = more_put both_text head_text chips c.loop-chip.chip-index _ c.loop-chip-test.true i.puts q;
       upper_bound = omega (arith, c.put_both.ensures.upper_bound, i.upper_bound);
       same = same_length c.put_both.ensures.puts ∙ i.same;
+      same_reference = c.put_both.ensures.same_reference ∙ i.same_reference;
     }

@@ -10,4 +10,5 @@ invariant-loop-chip l = record {
   puts : Puts l.fn.text.out.now l.fn.text.at (head_text ++ joined both_text (take l.chip-index chips)) l.text.at l.text.out.now;
   upper_bound : l.text.at ≤ l.fn.text.at + 35 + 490 * l.chip-index;
   same : length l.text.out.now ≡ length l.fn.text.out.now;
+  same_reference : l.text.out.ghost_name ≡ l.fn.text.out.ghost_name;
 }

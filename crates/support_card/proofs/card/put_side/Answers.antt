@@ -8,7 +8,7 @@ use Rattle.support_card.proofs.JoinedLaws.{nothing, more_put}
 use Rattle.support_card.proofs.card.put_side.Goals as goal
 
 pub loop-class-init : goal.loop-class-init
-loop-class-init c = record { puts = nothing; upper_bound = omega arith; same = refl }
+loop-class-init c = record { puts = nothing; upper_bound = omega arith; same = refl; same_reference = refl }
 
 pub loop-class-preserved : goal.loop-class-preserved
 loop-class-preserved c =
@@ -17,6 +17,7 @@ loop-class-preserved c =
       puts = more_put (line_text c.args.chip c.args.nack) [] card_classes c.loop-class.class-index _ c.loop-class-test.true i.puts c.put_line.ensures.puts;
       upper_bound = omega (arith, c.put_line.ensures.upper_bound, i.upper_bound);
       same = same_length c.put_line.ensures.puts ∙ i.same;
+      same_reference = c.put_line.ensures.same_reference ∙ i.same_reference;
     }
 
 pub returns : goal.returns
@@ -27,4 +28,5 @@ returns c =
     record {
       puts = subst (λ (n : ℕ). Puts c.args.text.now.out.now c.args.text.now.at (joined (line_text c.args.chip c.args.nack) (take n card_classes)) c.loop-class.text.at c.loop-class.text.out.now) e i.puts;
       upper_bound = omega (arith, i.upper_bound, e);
+      same_reference = i.same_reference;
     }

@@ -10,4 +10,5 @@ invariant-loop-class l = record {
   puts : Puts l.initial.text.out.now l.initial.text.at (joined (line_text l.chip l.nack) (take l.class-index card_classes)) l.text.at l.text.out.now;
   upper_bound : l.text.at ≤ l.initial.text.at + 35 * l.class-index;
   same : length l.text.out.now ≡ length l.initial.text.out.now;
+  same_reference : l.text.out.ghost_name ≡ l.initial.text.out.ghost_name;
 }

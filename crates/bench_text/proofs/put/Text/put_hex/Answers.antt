@@ -7,8 +7,8 @@ use Rattle.bench_text.proofs.put.Text.put_hex.Goals as goal
 pub loop-byte-preserved : goal.loop-byte-preserved
 loop-byte-preserved c =
     let i = c.loop-byte.invariant in
-    let p = c.put_pair.ensures in
-    (omega arith, same_length p ∙ i.1, omega (arith, p.place, i.2), hex_more _ _ c.loop-byte-test.true i.3 p)
+    let p = c.put_pair.ensures.puts in
+    (omega arith, same_length p ∙ i.1, omega (arith, p.place, i.2), c.put_pair.ensures.same_reference ∙ i.3, hex_more _ _ c.loop-byte-test.true i.4 p)
 
 pub returns-clause-puts : goal.returns-clause-puts
-returns-clause-puts c = hex_all _ _ c.loop-byte-test.false c.loop-byte.invariant.3
+returns-clause-puts c = hex_all _ _ c.loop-byte-test.false c.loop-byte.invariant.4
