@@ -191,7 +191,7 @@ impl From<Need> for Asked {
     }
 }
 
-// What a number asks for; of any number, not of one that a function made alone.
+// What a number asks for: any number, and not only that of an `Asked`.
 pub fn need_of(number: u64) -> Need
     ensures { result ≡ need_of number }
 {

@@ -3,3 +3,4 @@ pub mod Printed
 pub mod Laid
 pub mod Layer1
 pub mod Claims
+pub mod Lent

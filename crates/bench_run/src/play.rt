@@ -3,6 +3,7 @@ ghost use Rattle.std.specs.Prelude.{◌≡◌, ◌+◌, ◌≤◌, length, get_o
 ghost use Rattle.bench_text.specs.Puts.{Puts};
 ghost use Rattle.call.specs.Left.{left};
 ghost use Rattle.ch32_i2c.specs.Transfer.{transaction_begin};
+ghost use Rattle.bench_run.specs.Lent.{StaysLent};
 ghost use Rattle.bench_run.specs.Play.{asked, arriving, is_end, access_text, flags_of, ending_text, finish_text, play_from, most_turns};
 
 use crate::turn;
@@ -109,12 +110,7 @@ pub fn play(chip: u8, address: u8, lent: &mut Lent, answers: &[u16], text: &mut 
     ensures puts { Puts text.old.out.now text.old.at (play_from most_turns lent.old.list.now lent.old.written.now answers.now (transaction_begin lent.old.block.now chip address lent.old.list.now lent.old.written.now lent.old.read.now) 0 0) text.new.at text.new.out.now }
     ensures upper_bound { text.new.at ≤ length text.old.out.now }
     ensures same_reference { text.new.out.ghost_name ≡ text.old.out.ghost_name }
-    ensures list_kept { lent.new.list.now ≡ lent.old.list.now }
-    ensures written_kept { lent.new.written.now ≡ lent.old.written.now }
-    ensures same_block { lent.new.block.ghost_name ≡ lent.old.block.ghost_name }
-    ensures same_read { lent.new.read.ghost_name ≡ lent.old.read.ghost_name }
-    ensures same_block_length { length lent.new.block.now ≡ length lent.old.block.now }
-    ensures same_read_length { length lent.new.read.now ≡ length lent.old.read.now }
+    ensures stays { StaysLent lent.old lent.new }
 {
     let first = turn::begin(lent, chip, address);
     go(first, lent, answers, text);
@@ -126,12 +122,7 @@ fn go(first: Next, lent: &mut Lent, answers: &[u16], text: &mut Text)
     ensures puts { Puts text.old.out.now text.old.at (play_from most_turns lent.old.list.now lent.old.written.now answers.now (left first lent.old.block.now lent.old.read.now) 0 0) text.new.at text.new.out.now }
     ensures upper_bound { text.new.at ≤ length text.old.out.now }
     ensures same_reference { text.new.out.ghost_name ≡ text.old.out.ghost_name }
-    ensures list_kept { lent.new.list.now ≡ lent.old.list.now }
-    ensures written_kept { lent.new.written.now ≡ lent.old.written.now }
-    ensures same_block { lent.new.block.ghost_name ≡ lent.old.block.ghost_name }
-    ensures same_read { lent.new.read.ghost_name ≡ lent.old.read.ghost_name }
-    ensures same_block_length { length lent.new.block.now ≡ length lent.old.block.now }
-    ensures same_read_length { length lent.new.read.now ≡ length lent.old.read.now }
+    ensures stays { StaysLent lent.old lent.new }
 {
     let mut next = first;
     let mut used: usize = 0;

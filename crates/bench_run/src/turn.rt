@@ -1,7 +1,8 @@
 // Begin and step of a transaction as a C program calls them, with the returned number taken apart.
-ghost use Rattle.std.specs.Prelude.{◌≡◌, length};
+ghost use Rattle.std.specs.Prelude.{◌≡◌};
 ghost use Rattle.access.specs.Numbers.{next_of};
 ghost use Rattle.ch32_i2c.specs.Transfer.{transaction_begin, transaction_step};
+ghost use Rattle.bench_run.specs.Lent.{StaysLent};
 
 use access::{Next, ending};
 use ch32_i2c::transfer;
@@ -34,12 +35,7 @@ pub fn begin(lent: &mut Lent, chip: u8, address: u8) -> Next
     ensures value { result ≡ (transaction_begin lent.old.block.now chip address lent.old.list.now lent.old.written.now lent.old.read.now).next }
     ensures block_after { lent.new.block.now ≡ (transaction_begin lent.old.block.now chip address lent.old.list.now lent.old.written.now lent.old.read.now).block }
     ensures read_after { lent.new.read.now ≡ (transaction_begin lent.old.block.now chip address lent.old.list.now lent.old.written.now lent.old.read.now).read }
-    ensures list_kept { lent.new.list.now ≡ lent.old.list.now }
-    ensures written_kept { lent.new.written.now ≡ lent.old.written.now }
-    ensures same_block { lent.new.block.ghost_name ≡ lent.old.block.ghost_name }
-    ensures same_read { lent.new.read.ghost_name ≡ lent.old.read.ghost_name }
-    ensures same_block_length { length lent.new.block.now ≡ length lent.old.block.now }
-    ensures same_read_length { length lent.new.read.now ≡ length lent.old.read.now }
+    ensures stays { StaysLent lent.old lent.new }
 {
     next_of(transfer::ch32_i2c_transaction_begin(
         lent.block,
@@ -55,12 +51,7 @@ pub fn step(lent: &mut Lent, answer: u16) -> Next
     ensures value { result ≡ (transaction_step lent.old.block.now lent.old.list.now lent.old.written.now lent.old.read.now answer).next }
     ensures block_after { lent.new.block.now ≡ (transaction_step lent.old.block.now lent.old.list.now lent.old.written.now lent.old.read.now answer).block }
     ensures read_after { lent.new.read.now ≡ (transaction_step lent.old.block.now lent.old.list.now lent.old.written.now lent.old.read.now answer).read }
-    ensures list_kept { lent.new.list.now ≡ lent.old.list.now }
-    ensures written_kept { lent.new.written.now ≡ lent.old.written.now }
-    ensures same_block { lent.new.block.ghost_name ≡ lent.old.block.ghost_name }
-    ensures same_read { lent.new.read.ghost_name ≡ lent.old.read.ghost_name }
-    ensures same_block_length { length lent.new.block.now ≡ length lent.old.block.now }
-    ensures same_read_length { length lent.new.read.now ≡ length lent.old.read.now }
+    ensures stays { StaysLent lent.old lent.new }
 {
     next_of(transfer::ch32_i2c_transaction_step(
         lent.block,

@@ -1,5 +1,5 @@
 // The nine entries of the library by a stored call's entry.
-ghost use Rattle.std.specs.Prelude.{◌≡◌, length};
+ghost use Rattle.replay.specs.Lent.{StaysLent};
 
 use crate::stored::{Call, Entry};
 use access::{Words, ending};
@@ -18,12 +18,7 @@ pub struct Lent<'a> {
 
 // By a `match`, which is plainer than a table of functions: what each is lent differs.
 pub fn begin(call: Call, lent: &mut Lent) -> u64
-    ensures list_kept { lent.new.list.now ≡ lent.old.list.now }
-    ensures written_kept { lent.new.written.now ≡ lent.old.written.now }
-    ensures same_block { lent.new.block.ghost_name ≡ lent.old.block.ghost_name }
-    ensures same_read { lent.new.read.ghost_name ≡ lent.old.read.ghost_name }
-    ensures same_block_length { length lent.new.block.now ≡ length lent.old.block.now }
-    ensures same_read_length { length lent.new.read.now ≡ length lent.old.read.now }
+    ensures stays { StaysLent lent.old lent.new }
 {
     match call.entry {
         Entry::Init => init::ch32_i2c_init_begin(
@@ -85,12 +80,7 @@ pub fn begin(call: Call, lent: &mut Lent) -> u64
 
 // By a `match`, as above.
 pub fn step(entry: Entry, lent: &mut Lent, answer: u16) -> u64
-    ensures list_kept { lent.new.list.now ≡ lent.old.list.now }
-    ensures written_kept { lent.new.written.now ≡ lent.old.written.now }
-    ensures same_block { lent.new.block.ghost_name ≡ lent.old.block.ghost_name }
-    ensures same_read { lent.new.read.ghost_name ≡ lent.old.read.ghost_name }
-    ensures same_block_length { length lent.new.block.now ≡ length lent.old.block.now }
-    ensures same_read_length { length lent.new.read.now ≡ length lent.old.read.now }
+    ensures stays { StaysLent lent.old lent.new }
 {
     match entry {
         Entry::Init => init::ch32_i2c_init_step(lent.block, answer),

@@ -1,5 +1,6 @@
 // One stored call on the library.
-ghost use Rattle.std.specs.Prelude.{◌≡◌, ◌≤◌, length, IfSome};
+ghost use Rattle.std.specs.Prelude.{◌≤◌, length, IfSome};
+ghost use Rattle.replay.specs.Lent.{StaysLent};
 
 use crate::library::Lent;
 use crate::stored::{Access, Call, End, Entry};
@@ -49,12 +50,7 @@ struct Reached<'a> {
 // Steps as long as the accesses are as stored, up to the last. (No `for`: what is left there is handed back.)
 fn steps<'a>(entry: Entry, begun: u64, accesses: &'a [u8], lent: &mut Lent) -> Option<Reached<'a>>
     ensures shorter { IfSome result (λ r. length r.left.now ≤ length accesses.now) }
-    ensures list_kept { lent.new.list.now ≡ lent.old.list.now }
-    ensures written_kept { lent.new.written.now ≡ lent.old.written.now }
-    ensures same_block { lent.new.block.ghost_name ≡ lent.old.block.ghost_name }
-    ensures same_read { lent.new.read.ghost_name ≡ lent.old.read.ghost_name }
-    ensures same_block_length { length lent.new.block.now ≡ length lent.old.block.now }
-    ensures same_read_length { length lent.new.read.now ≡ length lent.old.read.now }
+    ensures stays { StaysLent lent.old lent.new }
 {
     let mut next = begun;
     let mut left = accesses;
@@ -76,12 +72,7 @@ fn steps<'a>(entry: Entry, begun: u64, accesses: &'a [u8], lent: &mut Lent) -> O
 // any other end a step answers 15.
 fn finish<'a>(call: Call, is_first: bool, reached: Reached<'a>, lent: &mut Lent) -> Option<&'a [u8]>
     ensures shorter { IfSome result (λ l. length l.now ≤ length reached.entry.left.now) }
-    ensures list_kept { lent.new.list.now ≡ lent.old.list.now }
-    ensures written_kept { lent.new.written.now ≡ lent.old.written.now }
-    ensures same_block { lent.new.block.ghost_name ≡ lent.old.block.ghost_name }
-    ensures same_read { lent.new.read.ghost_name ≡ lent.old.read.ghost_name }
-    ensures same_block_length { length lent.new.block.now ≡ length lent.old.block.now }
-    ensures same_read_length { length lent.new.read.now ≡ length lent.old.read.now }
+    ensures stays { StaysLent lent.old lent.new }
 {
     let (code, behind) = reached.left.split_first()?;
     if let Some(access) = Access::owed(*code) {
@@ -112,12 +103,7 @@ fn arrived(read: &[u8], seed: u8, left: &[u8]) -> Option<u64> {
 
 // A call with what is lent to it; nothing where it differs from what is stored.
 pub fn play(call: Call, accesses: &[u8], lent: &mut Lent) -> Option<Played>
-    ensures list_kept { lent.new.list.now ≡ lent.old.list.now }
-    ensures written_kept { lent.new.written.now ≡ lent.old.written.now }
-    ensures same_block { lent.new.block.ghost_name ≡ lent.old.block.ghost_name }
-    ensures same_read { lent.new.read.ghost_name ≡ lent.old.read.ghost_name }
-    ensures same_block_length { length lent.new.block.now ≡ length lent.old.block.now }
-    ensures same_read_length { length lent.new.read.now ≡ length lent.old.read.now }
+    ensures stays { StaysLent lent.old lent.new }
 {
     let begun = library::begin(call, lent);
     let reached = steps(call.entry, begun, accesses, lent)?;

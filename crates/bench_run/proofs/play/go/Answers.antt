@@ -21,17 +21,19 @@ loop-turn-preserved c =
     let more : 0 < 16384 - c.loop-turn._turn = omega arith in
     let next : 16384 - (c.loop-turn._turn + 1) ≡ 16384 - c.loop-turn._turn - 1 = omega arith in
     record {
-      list_kept = e.list_kept ∙ i.list_kept;
-      written_kept = e.written_kept ∙ i.written_kept;
-      same_block = e.same_block ∙ i.same_block;
-      same_read = e.same_read ∙ i.same_read;
-      same_block_length = e.same_block_length ∙ i.same_block_length;
-      same_read_length = e.same_read_length ∙ i.same_read_length;
+      stays = record {
+        list = e.stays.list ∙ i.stays.list;
+        written = e.stays.written ∙ i.stays.written;
+        block = e.stays.block ∙ i.stays.block;
+        read = e.stays.read ∙ i.stays.read;
+        block_length = e.stays.block_length ∙ i.stays.block_length;
+        read_length = e.stays.read_length ∙ i.stays.read_length;
+      };
       same_reference = c.put_access.ensures.same_reference ∙ i.same_reference;
       going =
           rw next
           (going_on _ _ _ i.going more (sym c.is_end.ensures ∙ c.if-is_end.false) c.asked-taken.ensures.value c.if-answers-used.false c.arriving-arrived.ensures.value c.arriving-arrived.ensures.upper_bound c.answer_at-answer.ensures c.put_access.ensures.puts c.put_access.ensures.upper_bound (same_length c.put_access.ensures.puts)
-          (rw (i.list_kept, i.written_kept) at e.value) (rw (i.list_kept, i.written_kept) at e.block_after) (rw (i.list_kept, i.written_kept) at e.read_after));
+          (rw (i.stays.list, i.stays.written) at e.value) (rw (i.stays.list, i.stays.written) at e.block_after) (rw (i.stays.list, i.stays.written) at e.read_after));
     }
 
 pub returns-clause-puts : goal.returns-clause-puts
