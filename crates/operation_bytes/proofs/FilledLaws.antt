@@ -18,18 +18,17 @@ zeros_counted : (m : ℕ) → length (zeros m) ≡ m
 zeros_counted m = length-replicate m 0
 
 module _ (n : ℕ) (bytes : List ℕ) (h : IsFilled n bytes) where
-  -- the list
   abbrev list : List ℕ
   list = take n bytes
 
-  -- they are 771
+  -- the bytes are 771
   all : length bytes ≡ 771
   all =
       let e : length (list ++ zeros (771 - length list)) ≡ length list + length (zeros (771 - length list)) = length-append list (zeros (771 - length list)) in
       let s : length (list ++ zeros (771 - length list)) ≡ length bytes = ap length h.2 in
       omega (arith, e, zeros_counted (771 - length list), s, h.0, h.1)
 
-  -- what stands behind three more
+  -- behind three more of them are zeros
   behind : drop (n + 3) bytes ≡ zeros (771 - length list - 3)
   behind =
       ap (λ (l : List ℕ). drop (n + 3) l) (sym h.2)
